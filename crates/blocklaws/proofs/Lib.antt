@@ -1,0 +1,11 @@
+pub mod Every
+pub mod RowLaw
+pub mod ByCode
+pub mod StationsKept
+pub mod SetsKept
+pub mod SoundnessKept
+pub mod FreshSound
+pub mod OneDirection
+pub mod RefusedUnchanged
+pub mod EventsChange
+pub mod PendingRule

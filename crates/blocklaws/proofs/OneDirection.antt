@@ -1,0 +1,11 @@
+-- An area has at most one direction: it is never out and in at once. Assumes nothing.
+use mathlib.Core.Bool.{not}
+use lib.Dec.{T}
+use Rattle.sections.specs.Words.{_and_}
+use Rattle.block.specs.Situation.{areaDirection}
+use Rattle.block.specs.Sound.{stationSound}
+use Rattle.block.specs.declared.situation.Station.{Station}
+use Rattle.blocklaws.proofs.Every.{everyStation-at}
+
+pub one-direction : (t : Station) → T (stationSound t) → T (not (areaDirection t .out and areaDirection t .inward))
+one-direction t = everyStation-at t (λ u. not (areaDirection u .out and areaDirection u .inward)) tt

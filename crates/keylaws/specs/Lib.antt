@@ -1,0 +1,9 @@
+pub mod Rules
+pub mod Key
+pub mod Run
+pub mod Order
+pub mod Slots
+pub mod Continuation
+pub mod Parts
+pub mod Walk
+pub mod Sheet

@@ -1,0 +1,2 @@
+pub mod Aspects
+pub mod Readings

@@ -1,0 +1,3 @@
+// What the signals show, and what is read off a situation.
+pub mod aspects;
+pub mod readings;
