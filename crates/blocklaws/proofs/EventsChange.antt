@@ -34,6 +34,7 @@ use Rattle.blocklaws.proofs.RowLaw as row-law
 use Rattle.blocklaws.proofs.RowLaw.{holds}
 use Rattle.blocklaws.proofs.SetsKept.{InLine, OfBlockSignal, Placed}
 use Rattle.blocklaws.proofs.SoundnessKept.{plan-short, placed, seen-sound}
+use Rattle.blocklaws.specs.Laws.{EventsChange}
 
 -- what the event brings about: "already so, or there is nothing to undo"
 abbrev already : Event → Place → Situation → Bool
@@ -212,8 +213,11 @@ module _ (q : Plan) (plan : T (isPlan q)) (x : Situation) (code arg : ℕ) (t : 
       (λ a e. reached-changes (twice-not (known code) k) (twice-not (argument-right q code arg) r) a)
       (λ a e. absurd (not-equal (own-refusal q x code arg) 0 a e))
 
-  pub accepted-changes : applied q x code arg .refusal ≡ 0 → applied q x code arg .next ≡ x → ⊥
+  applied-changes : applied q x code arg .refusal ≡ 0 → applied q x code arg .next ≡ x → ⊥
   unfolding Changes
-  accepted-changes =
+  applied-changes =
       if-case Changes (eqb (judged q x) 0) (stepped q x code arg) (refused (judged q x) x) (λ u. stepped-changes)
       (λ u e. absurd (not-equal (judged q x) 0 u e))
+
+pub events-change : EventsChange
+events-change = applied-changes

@@ -12,13 +12,14 @@ use Rattle.block.specs.Sound.{held-sound, sound}
 use Rattle.block.specs.declared.line.Plan.{Plan}
 use Rattle.block.specs.declared.line.Direction.{Direction}
 use Rattle.block.specs.declared.line.Direction.the-variants.{TowardsA, TowardsB}
+use Rattle.blocklaws.specs.Laws.{FreshSound}
 
 none-held : (q : Plan) (d : Direction) → T (sections-up-to (q .sections) none and not (first-section q (entrance d) ∈ none))
 none-held q d =
     and-of (sections-up-to (q .sections) none) (not (first-section q (entrance d) ∈ none)) (none-up-to (q .sections))
     (subst (λ v. T (not v)) (sym (none-has (first-section q (entrance d)))) tt)
 
-pub fresh-sound : (q : Plan) → T (sound q fresh)
+pub fresh-sound : FreshSound
 fresh-sound q =
     and-of (sections-up-to (q .sections) none and held-sound q fresh TowardsB) (held-sound q fresh TowardsA)
     (and-of (sections-up-to (q .sections) none) (held-sound q fresh TowardsB) (none-up-to (q .sections)) (none-held q TowardsB))

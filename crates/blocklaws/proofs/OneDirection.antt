@@ -6,6 +6,7 @@ use Rattle.block.specs.Situation.{areaDirection}
 use Rattle.block.specs.Sound.{stationSound}
 use Rattle.block.specs.declared.situation.Station.{Station}
 use Rattle.blocklaws.proofs.Every.{everyStation-at}
+use Rattle.blocklaws.specs.Laws.{OneDirection}
 
-pub one-direction : (t : Station) → T (stationSound t) → T (not (areaDirection t .out and areaDirection t .inward))
+pub one-direction : OneDirection
 one-direction t = everyStation-at t (λ u. not (areaDirection u .out and areaDirection u .inward)) tt

@@ -29,16 +29,8 @@ use Rattle.events.specs.declared.Event.{Event}
 use Rattle.events.specs.declared.Event.the-variants.{Sobb, Cobb, Afbli, Afble, Dafbl, Bilc, Dilc, Bslg, BslgOff, Bslb, BslbOff, Reminder, ReminderOff, ExitNormal, ExitSpecial, ExitReleased, Entry, EntryReleased, Occupied, Freed, LinkLost, LinkRestored, Unknown}
 use Rattle.events.specs.declared.Place.{Place}
 use Rattle.events.specs.declared.Outcome.{Outcome}
+use Rattle.blocklaws.specs.Laws.{asked-by, pending-after, PendingRule}
 use Rattle.blocklaws.proofs.ByCode.{code-of, led-to, by-code}
-
--- "pending SOBB: 0 none, 1 asked by A, 2 by B", the situation being kept as A sees it
-abbrev pub asked-by : Name → Pending
-asked-by StationA = record { own = true; other = false }
-asked-by StationB = record { own = false; other = true }
-
--- what is pending after an accepted event that led from x to y
-abbrev pub pending-after : ℕ → Name → Situation → Situation → Pending
-pending-after code own x y = if clears-pending code or orientation-change x y then nobody else if eqb code 1 then asked-by own else x .pending
 
 -- ---- as own sees it
 either : (v : Bool) (z w : Situation) (p : Pending) → z .pending ≡ p → w .pending ≡ p → (if v then z else w) .pending ≡ p
@@ -143,8 +135,11 @@ module _ (q : Plan) (x : Situation) (code arg : ℕ) where
       if-case Ruled (eqb (own-refusal q x code arg) 0) (accepted (reached q x code arg)) (refused (own-refusal q x code arg) x)
       (λ a e. reached-ruled (twice-not (known code) k)) (λ a e. absurd (not-equal (own-refusal q x code arg) 0 a e))
 
-  pub pending-rule : applied q x code arg .refusal ≡ 0 → applied q x code arg .next .pending ≡ pending-after code (named q code arg) x (applied q x code arg .next)
+  applied-ruled : applied q x code arg .refusal ≡ 0 → applied q x code arg .next .pending ≡ pending-after code (named q code arg) x (applied q x code arg .next)
   unfolding Ruled
-  pending-rule =
+  applied-ruled =
       if-case Ruled (eqb (judged q x) 0) (stepped q x code arg) (refused (judged q x) x) (λ u. stepped-ruled)
       (λ u e. absurd (not-equal (judged q x) 0 u e))
+
+pub pending-rule : PendingRule
+pending-rule = applied-ruled

@@ -9,6 +9,7 @@ use Rattle.block.specs.declared.line.Plan.{Plan}
 use Rattle.block.specs.declared.situation.Situation.{Situation}
 use Rattle.events.specs.Apply.{known, argument-right, own-refusal, reached, accepted, refused, acted, stepped, applied}
 use Rattle.events.specs.declared.Outcome.{Outcome}
+use Rattle.blocklaws.specs.Laws.{RefusedUnchanged}
 
 module _ (q : Plan) (x : Situation) (code arg : ℕ) where
   Unchanged : Outcome → Type 0
@@ -22,7 +23,10 @@ module _ (q : Plan) (x : Situation) (code arg : ℕ) where
       if-case Unchanged (eqb (own-refusal q x code arg) 0) (accepted (reached q x code arg)) (refused (own-refusal q x code arg) x)
       (λ t d. absurd (d refl)) (λ t d. refl)
 
-  pub refused-unchanged : (applied q x code arg .refusal ≡ 0 → ⊥) → applied q x code arg .next ≡ x
+  applied-unchanged : (applied q x code arg .refusal ≡ 0 → ⊥) → applied q x code arg .next ≡ x
   unfolding Unchanged
-  refused-unchanged =
+  applied-unchanged =
       if-case Unchanged (eqb (judged q x) 0) (stepped q x code arg) (refused (judged q x) x) (λ t. stepped-unchanged) (λ t d. refl)
+
+pub refused-unchanged : RefusedUnchanged
+refused-unchanged = applied-unchanged

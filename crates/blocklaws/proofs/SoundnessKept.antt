@@ -25,6 +25,7 @@ use Rattle.blocklaws.proofs.ByCode.{code-of, led-to, by-code}
 use Rattle.blocklaws.proofs.RowLaw as row-law
 use Rattle.blocklaws.proofs.StationsKept.{turned-sound, stations-kept}
 use Rattle.blocklaws.proofs.SetsKept.{InLine, OfBlockSignal, Placed, sets-kept}
+use Rattle.blocklaws.specs.Laws.{SoundnessKept}
 
 -- a word has bits for all sections of a plan
 pub plan-short : (q : Plan) → T (isPlan q) → q .sections < 64
@@ -91,8 +92,10 @@ module _ (q : Plan) (plan : T (isPlan q)) (x : Situation) (code arg : ℕ) (t : 
       if-case P (eqb (own-refusal q x code arg) 0) (accepted (reached q x code arg)) (refused (own-refusal q x code arg) x)
       (reached-sound (twice-not (known code) k) (twice-not (argument-right q code arg) r)) (λ u. t)
 
-  -- for every plan that is one, every sound situation, every code and argument: the situation after is sound
-  pub soundness-kept : T (sound q (applied q x code arg .next))
-  soundness-kept =
+  applied-sound : T (sound q (applied q x code arg .next))
+  applied-sound =
       if-case (λ (o : Outcome). T (sound q (o .next))) (eqb (judged q x) 0) (stepped q x code arg) (refused (judged q x) x)
       (λ u. stepped-sound) (λ u. t)
+
+pub soundness-kept : SoundnessKept
+soundness-kept = applied-sound
