@@ -1,0 +1,156 @@
+-- "Plan 4, 2, fresh unless told. To be shown of the rules, as a single table"
+use Prim.Native.Nat.{ℕ, _+_, _*_}
+use mathlib.Core.Bool.{Bool, true, false}
+use mathlib.Core.List.{List, [], _∷_}
+use mathlib.Core.Path.{_≡_}
+use lib.Dec.{T, eqb}
+use Rattle.sections.specs.Words.{_and_}
+use Rattle.block.specs.Situation.{fresh}
+use Rattle.block.specs.declared.line.Plan.{Plan}
+use Rattle.block.specs.declared.situation.Situation.{Situation}
+use Rattle.events.specs.Apply.{applied}
+use Rattle.signals.specs.Readings.{value-read}
+use Rattle.marking.specs.Exact.{exactAnswer}
+use Rattle.marking.specs.Sheet.{marked}
+use Rattle.marking.specs.declared.Answer.{Answer}
+use Rattle.marking.specs.declared.Answer.the-variants.{Seconds}
+use lib.Ieee.{Float, binary32, round}
+use lib.IntN.{pos}
+
+infix 90 _at_gives_
+infix 80 signal_shows_
+infix 80 towards-B-show_
+infix 80 towards-A-show_
+infix 80 orientation_is_
+infix 80 annulment_is_
+infix 70 _then_
+infix 70 _metres-at_exactly_seconds
+infix 70 _metres-at_within_typed_/2^18-gets_error_
+infix 70 _metres-at_within-0-no-float-is-right
+abbrev pub plan : Plan
+plan = record { sections = 4; frontier = 2 }
+
+abbrev pub A : ℕ
+A = 0
+
+abbrev pub B : ℕ
+B = 1
+
+-- ---- the orders and happenings that the examples name, by their codes
+abbrev pub SOBB : ℕ
+SOBB = 1
+
+abbrev pub COBB : ℕ
+COBB = 2
+
+abbrev pub AFBLI : ℕ
+AFBLI = 3
+
+abbrev pub AFBLE : ℕ
+AFBLE = 4
+
+abbrev pub BILC : ℕ
+BILC = 6
+
+abbrev pub BSLG : ℕ
+BSLG = 8
+
+abbrev pub exit-route : ℕ
+exit-route = 14
+
+abbrev pub special-exit : ℕ
+special-exit = 15
+
+abbrev pub occupied : ℕ
+occupied = 19
+
+abbrev pub link-lost : ℕ
+link-lost = 21
+
+abbrev pub link-restored : ℕ
+link-restored = 22
+
+-- ---- what a row tells: events with the refusal each gets (0 accepted), then what is read; or a number typed
+pub data Event : Type 0 where
+  _at_gives_ : ℕ → ℕ → ℕ → Event
+
+pub data Seen : Type 0 where
+  signal_shows_ : ℕ → ℕ → Seen
+  towards-B-show_ : List ℕ → Seen
+  towards-A-show_ : List ℕ → Seen
+  orientation_is_ : ℕ → ℕ → Seen
+  annulment_is_ : ℕ → ℕ → Seen
+
+pub data Row : Type 0 where
+  _then_ : List Event → List Seen → Row
+  _metres-at_exactly_seconds : ℕ → ℕ → ℕ → Row
+  _metres-at_within_typed_/2^18-gets_error_ : ℕ → ℕ → ℕ → ℕ → ℕ → ℕ → Row
+  _metres-at_within-0-no-float-is-right : ℕ → ℕ → Row
+
+-- ---- when a row holds
+abbrev pub show-from : Situation → ℕ → List ℕ → Bool
+show-from x s [] = true
+show-from x s (v ∷ vs) = eqb (value-read plan x 1 s) v and show-from x (s + 1) vs
+
+abbrev pub is-seen : Situation → Seen → Bool
+is-seen x (signal s shows v) = eqb (value-read plan x 1 s) v
+is-seen x (towards-B-show vs) = show-from x 1 vs
+is-seen x (towards-A-show vs) = show-from x 129 vs
+is-seen x (orientation s is v) = eqb (value-read plan x 2 s) v
+is-seen x (annulment s is v) = eqb (value-read plan x 3 s) v
+
+abbrev pub all-seen : Situation → List Seen → Bool
+all-seen x [] = true
+all-seen x (r ∷ rs) = is-seen x r and all-seen x rs
+
+abbrev pub go : Situation → List Event → List Seen → Bool
+go x [] rs = all-seen x rs
+go x ((code at arg gives refusal) ∷ es) rs = eqb (applied plan x code arg .refusal) refusal and go (applied plan x code arg .next) es rs
+
+-- the float that is n / 2 ^ 18
+abbrev pub over-2^18 : ℕ → Float
+over-2^18 n = round binary32 false n 262144
+
+unfoldable pub Holds : Row → Type 0
+Holds (es then rs) = T (go fresh es rs)
+Holds (d metres-at v exactly t seconds) = exactAnswer 1 d v .top ≡ t * exactAnswer 1 d v .bottom
+Holds (d metres-at v within tolerance typed n /2^18-gets verdict error e) =
+    (marked 1 d v tolerance (Seconds (over-2^18 n)) .line .verdict ≡ verdict) × (marked 1 d v tolerance (Seconds (over-2^18 n)) .line .error ≡ pos e)
+Holds (d metres-at v within-0-no-float-is-right) = (a : Answer) → marked 1 d v 0 a .line .verdict ≡ 1 → ⊥
+
+unfoldable pub All : List Row → Type 0
+All [] = Unit {0}
+All (r ∷ rs) = Holds r × All rs
+
+abbrev pub table : List Row
+table =
+    -- 1. Exit route A: 12.
+    ((exit-route at A gives 12 ∷ []) then [])
+    -- 2. SOBB A, COBB B: aspects 1..4 are 0,2,2,1; towards A all 0. Then exit route A: signal 1 is 2; exit route B: 13.
+    ∷ ((SOBB at A gives 0 ∷ COBB at B gives 0 ∷ []) then (towards-B-show (0 ∷ 2 ∷ 2 ∷ 1 ∷ []) ∷ towards-A-show (0 ∷ 0 ∷ 0 ∷ 0 ∷ []) ∷ []))
+    ∷ ((SOBB at A gives 0 ∷ COBB at B gives 0 ∷ exit-route at A gives 0 ∷ []) then (signal 1 shows 2 ∷ []))
+    ∷ ((SOBB at A gives 0 ∷ COBB at B gives 0 ∷ exit-route at A gives 0 ∷ exit-route at B gives 13 ∷ []) then [])
+    -- 3. After the first two orders of 2, link lost: 1..4 are 0,1,2,1.
+    ∷ ((SOBB at A gives 0 ∷ COBB at B gives 0 ∷ link-lost at 0 gives 0 ∷ []) then (towards-B-show (0 ∷ 1 ∷ 2 ∷ 1 ∷ []) ∷ []))
+    -- 4. AFBLE A, AFBLE B: signals 2 and 131 yellow, all others red.
+    ∷ ((AFBLE at A gives 0 ∷ AFBLE at B gives 0 ∷ []) then (towards-B-show (0 ∷ 1 ∷ 0 ∷ 0 ∷ []) ∷ towards-A-show (0 ∷ 0 ∷ 1 ∷ 0 ∷ []) ∷ []))
+    -- 5. AFBLE A, then 2 occupied: annulment 0. With 1 occupied first: kept.
+    ∷ ((AFBLE at A gives 0 ∷ occupied at 2 gives 0 ∷ []) then (annulment A is 0 ∷ []))
+    ∷ ((AFBLE at A gives 0 ∷ occupied at 1 gives 0 ∷ occupied at 2 gives 0 ∷ []) then (annulment A is 2 ∷ []))
+    -- 6. BSLG A then AFBLI A accepted; AFBLI A then BSLG A: 8.
+    ∷ ((BSLG at A gives 0 ∷ AFBLI at A gives 0 ∷ []) then [])
+    ∷ ((AFBLI at A gives 0 ∷ BSLG at A gives 8 ∷ []) then [])
+    -- 7. AFBLE A: normal exit 8, special accepted; with BILC 11.
+    ∷ ((AFBLE at A gives 0 ∷ exit-route at A gives 8 ∷ special-exit at A gives 0 ∷ []) then [])
+    ∷ ((AFBLE at A gives 0 ∷ BILC at A gives 0 ∷ special-exit at A gives 11 ∷ []) then [])
+    -- 8. SOBB A, COBB B, link lost, AFBLE A: B still in; link restored: both none.
+    ∷ ((SOBB at A gives 0 ∷ COBB at B gives 0 ∷ link-lost at 0 gives 0 ∷ AFBLE at A gives 0 ∷ []) then (orientation B is 2 ∷ []))
+    ∷ ((SOBB at A gives 0 ∷ COBB at B gives 0 ∷ link-lost at 0 gives 0 ∷ AFBLE at A gives 0 ∷ link-restored at 0 gives 0 ∷ [])
+    then (orientation A is 0 ∷ orientation B is 0 ∷ []))
+    -- 9. 1,500 m, 100 km/h: 54. Tolerance 50: 14168883/2^18 right, error 49; 14168884/2^18 wrong, error 50.
+    ∷ (1500 metres-at 100 exactly 54 seconds)
+    ∷ (1500 metres-at 100 within 50 typed 14168883 /2^18-gets 1 error 49)
+    ∷ (1500 metres-at 100 within 50 typed 14168884 /2^18-gets 0 error 50)
+    -- 10. 1,000 m, 70 km/h, tolerance 0: no float is right.
+    ∷ (1000 metres-at 70 within-0-no-float-is-right)
+    ∷ []
