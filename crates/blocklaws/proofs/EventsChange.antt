@@ -13,6 +13,7 @@ use Rattle.block.specs.Events as rows
 use Rattle.block.specs.Line.{isPlan, is-first}
 use Rattle.block.specs.Expected.{expected}
 use Rattle.block.specs.Judged.{judged}
+use Rattle.block.proofs.PlanLaws.{plan-short}
 use Rattle.block.specs.Pending.{orientation-change, pending-settled}
 use Rattle.block.specs.Sound.{stationsSound, setsSound, sound}
 use Rattle.block.specs.Situation.{_annulled, _has-exit-route, _is-in, _under-AFBLE, _with-exit_, normal, special, out, inward, none, held, line-free, one-out-one-in, nobody, withOwn, withLink, withPending, with-held, reoriented, seen-from}
@@ -33,7 +34,7 @@ use Rattle.blocklaws.proofs.ByCode.{code-of, led-to, by-code}
 use Rattle.blocklaws.proofs.RowLaw as row-law
 use Rattle.blocklaws.proofs.RowLaw.{holds}
 use Rattle.blocklaws.proofs.SetsKept.{InLine, OfBlockSignal, Placed}
-use Rattle.blocklaws.proofs.SoundnessKept.{plan-short, placed, seen-sound}
+use Rattle.blocklaws.proofs.SoundnessKept.{placed, seen-sound}
 use Rattle.blocklaws.specs.Laws.{EventsChange}
 
 -- what the event brings about: "already so, or there is nothing to undo"

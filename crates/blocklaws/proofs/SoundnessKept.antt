@@ -10,6 +10,7 @@ use Rattle.sections.specs.Words.{_and_, _or_, if_then_else_}
 use Rattle.sections.proofs.Tests.{and-at, and-of, or-at, not-equal, twice-not, if-case}
 use Rattle.block.specs.Line.{isPlan, is-section, first-section, entrance, direction-of, section-of, is-block-signal, is-exit}
 use Rattle.block.specs.Judged.{judged}
+use Rattle.block.proofs.PlanLaws.{plan-short}
 use Rattle.block.specs.Situation.{seen-from}
 use Rattle.block.specs.Sound.{stationsSound, setsSound, sound}
 use Rattle.block.specs.declared.line.Plan.{Plan}
@@ -26,15 +27,6 @@ use Rattle.blocklaws.proofs.RowLaw as row-law
 use Rattle.blocklaws.proofs.StationsKept.{turned-sound, stations-kept}
 use Rattle.blocklaws.proofs.SetsKept.{InLine, OfBlockSignal, Placed, sets-kept}
 use Rattle.blocklaws.specs.Laws.{SoundnessKept}
-
--- a word has bits for all sections of a plan
-pub plan-short : (q : Plan) → T (isPlan q) → q .sections < 64
-plan-short q t =
-    let h₁ = and-at (leb 2 (q .sections) and leb (q .sections) 16 and leb 1 (q .frontier)) (ltb (q .frontier) (q .sections)) t in
-    let h₂ = and-at (leb 2 (q .sections) and leb (q .sections) 16) (leb 1 (q .frontier)) (h₁ .0) in
-    let h₃ = and-at (leb 2 (q .sections)) (leb (q .sections) 16) (h₂ .0) in
-    let top : q .sections ≤ 16 = leb→le (q .sections) 16 (h₃ .1) in
-    omega arith
 
 module _ (q : Plan) (short : q .sections < 64) where
   in-line : (k : ℕ) → T (is-section q k) → InLine (q .sections) k
