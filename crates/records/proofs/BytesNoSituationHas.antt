@@ -1,0 +1,63 @@
+-- "A set bit that names no station, no section or an exit signal gives 2", and so does a code out of range: no such situation is sound.
+-- Assumes nothing.
+use Prim.Native.Nat.{ℕ, suc, _+_, _*_, _/_, _%_, _^_, _<_}
+use mathlib.Core.Path.{_≡_, refl}
+use mathlib.Core.Bool.{Bool, true, false, not}
+use mathlib.Core.List.{List}
+use native.Mathlib.Omega.{arith}
+use native.Mathlib.Nat.{mul-div-mul-left, div-lt-iff-lt-mul, pow-succ'}
+use borrow.Author.Tests.{eqb-true}
+use lib.Dec.{T, T-not, eqb}
+use lib.ListN.{length}
+use lib.Pow.{pow-pos}
+use Rattle.sections.specs.Words.{_and_, if_then_else_}
+use Rattle.sections.specs.Sections.{_∈_, sections-up-to}
+use Rattle.sections.proofs.SetLaws.{nothing-over}
+use Rattle.sections.proofs.Tests.{and-at, holds-is}
+use Rattle.block.specs.Sound.{sound}
+use Rattle.block.specs.declared.line.Plan.{Plan}
+use Rattle.block.specs.declared.line.Direction.the-variants.{TowardsA, TowardsB}
+use Rattle.block.specs.declared.situation.Situation.{Situation}
+use Rattle.records.proofs.SoundParts.{sound-sets}
+use Rattle.records.specs.Situation.{codes-in-range, no-situation, situation-of, sections-of}
+
+-- a code out of range, or a bit that names no station
+refused-either-way : (v : Bool) (x : Situation) → (if v and false then x else no-situation) ≡ no-situation
+refused-either-way true x = refl
+refused-either-way false x = refl
+
+pub code-out-of-range : (p : Plan) (body : List ℕ) → codes-in-range body ≡ false → sound p (situation-of body) ≡ false
+unfolding situation-of
+code-out-of-range p body h = rw (h, refused-either-way (eqb (length body) 19) _)
+
+-- the bit j of a field of two bytes, low byte first, is that of section j + 1
+pub bit-names-section : (low high j : ℕ) → (suc j ∈ sections-of low high) ≡ eqb ((low + 256 * high) / 2 ^ j % 2) 1
+bit-names-section low high j =
+    rw (pow-succ' 2 j, mul-div-mul-left {m = 2} (low + 256 * high) (2 ^ j) (omega arith))
+
+-- a bit that names no section
+beyond : (n m k : ℕ) → n < k → T (sections-up-to n m) → T (k ∈ m) → ⊥
+beyond n m k l h t =
+    let a = and-at (not (0 ∈ m)) (eqb (m / 2 ^ (n + 1)) 0) h in
+    let e = eqb-true (m / 2 ^ (n + 1)) 0 (holds-is _ (a .1)) in
+    let b : m < 1 * 2 ^ (n + 1) = div-lt-iff-lt-mul {k = 2 ^ (n + 1)} {x = m} {y = 1} (pow-pos (n + 1)) .0 (omega arith) in
+    let o : m / 2 ^ k ≡ 0 = nothing-over m (n + 1) k (omega arith) (omega arith) in
+    let i = eqb-true (m / 2 ^ k % 2) 1 (holds-is _ t) in
+    omega (arith, o, i)
+
+module _ (p : Plan) (x : Situation) where
+  pub occupied-no-section : (k : ℕ) → p .sections < k → T (k ∈ x .occupied) → T (sound p x) → ⊥
+  occupied-no-section k l t h = beyond (p .sections) (x .occupied) k l (sound-sets p x h .occupied) t
+
+  pub held-towards-B-no-section : (k : ℕ) → p .sections < k → T (k ∈ x .heldb) → T (sound p x) → ⊥
+  held-towards-B-no-section k l t h = beyond (p .sections) (x .heldb) k l (sound-sets p x h .heldb) t
+
+  pub held-towards-A-no-section : (k : ℕ) → p .sections < k → T (k ∈ x .helda) → T (sound p x) → ⊥
+  held-towards-A-no-section k l t h = beyond (p .sections) (x .helda) k l (sound-sets p x h .helda) t
+
+  -- a bit that names an exit signal: 1, and 128 + n
+  pub held-exit-signal-A : T (1 ∈ x .heldb) → T (sound p x) → ⊥
+  held-exit-signal-A t h = T-not (1 ∈ x .heldb) (sound-sets p x h .no-exit-A) t
+
+  pub held-exit-signal-B : T (p .sections ∈ x .helda) → T (sound p x) → ⊥
+  held-exit-signal-B t h = T-not (p .sections ∈ x .helda) (sound-sets p x h .no-exit-B) t

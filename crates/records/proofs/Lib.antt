@@ -1,0 +1,9 @@
+pub mod Forms
+pub mod Front
+pub mod PlanLaws
+pub mod SituationCodes
+pub mod SoundParts
+pub mod SituationLaws
+pub mod ListLaws
+pub mod LengthLaws
+pub mod BytesNoSituationHas

@@ -1,0 +1,28 @@
+use mathlib.Core.Path.{refl}
+use borrow.Author.Needs.{needs}
+use Rattle.records.specs.Situation.{codes-in-range}
+use Rattle.records.proofs.situation.codes_in_range.Statement.{statement}
+use Rattle.records.proofs.situation.codes_in_range.Tie as tie
+
+returns : tie.Need-returns
+unfolding codes-in-range
+returns c = refl
+
+pub codes-in-range-spec : {M : Type 1} → statement M
+codes-in-range-spec =
+    tie.close
+    (tie.spec
+    (λ c. search needs)
+    (λ c. search needs)
+    (λ c. search needs)
+    (λ c. search needs)
+    (λ c. search needs)
+    (λ c. search needs)
+    (λ c. search needs)
+    (λ c. search needs)
+    (λ c. search needs)
+    (λ c. search needs)
+    (λ c. search needs)
+    (λ c. search needs)
+    (λ c. search needs)
+    returns)

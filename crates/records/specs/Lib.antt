@@ -1,0 +1,5 @@
+pub mod Form
+pub mod Plan
+pub mod Situation
+pub mod Lists
+pub mod Length
