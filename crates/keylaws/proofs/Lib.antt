@@ -17,3 +17,4 @@ pub mod SheetFills
 pub mod WalkSteps
 pub mod WalkGivesPart
 pub mod SlotTestSteps
+pub mod KeyIsBounded

@@ -12,9 +12,6 @@ use Rattle.records.specs.Form.{marked, stands}
 use Rattle.records.specs.declared.form.Mark.{Mark}
 use Rattle.records.proofs.Forms.{stands-first, stands-second, stands-long}
 
-abbrev pub Bytes : List ℕ → Type 0
-Bytes s = (i : ℕ) → getD s i 0 < 256
-
 -- n bytes from the i-th on
 abbrev pub bytes-from : ℕ → ℕ → List ℕ → List ℕ
 bytes-from zero i s = []

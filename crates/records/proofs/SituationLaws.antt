@@ -15,11 +15,11 @@ use Rattle.block.specs.declared.line.Plan.{Plan}
 use Rattle.block.specs.declared.line.Direction.the-variants.{TowardsA, TowardsB}
 use Rattle.block.specs.declared.situation.Station.{Station}
 use Rattle.block.specs.declared.situation.Situation.{Situation}
-use Rattle.records.specs.Form.{stands}
+use Rattle.records.specs.Form.{stands, Bytes}
 use Rattle.records.specs.Situation.{SI, situation-bytes, situation-written, codes-in-range, decoded, situation-of, situation-read}
 use Rattle.records.specs.declared.situation.SituationRead.{SituationRead}
 use Rattle.records.proofs.Forms.{both, stands-long}
-use Rattle.records.proofs.Front.{Bytes, bytes-from, front, mark-stands, marked-front, taken-is-there, fixed-front}
+use Rattle.records.proofs.Front.{bytes-from, front, mark-stands, marked-front, taken-is-there, fixed-front}
 use Rattle.records.proofs.SoundParts.{Encodable, encodable}
 use Rattle.records.proofs.SituationCodes.{flag-in-range, code-in-range, bits-in-range, flag-back, code-first, code-second, bits-A, bits-B, sections-back, flag-again, code-again, bits-again, first-again, second-again}
 

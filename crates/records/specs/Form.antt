@@ -1,6 +1,6 @@
 -- What the records of a question share. A record is written as its mark and what follows it. Read off the front of a list it is told by how
 -- many bytes it takes, 0 where it does not stand there, and by its value; what is left is what comes after those bytes.
-use Prim.Native.Nat.{ℕ, _+_, _*_}
+use Prim.Native.Nat.{ℕ, _+_, _*_, _<_}
 use mathlib.Core.Bool.{Bool}
 use mathlib.Core.List.{List, _∷_, _++_}
 use lib.ListN.{length, take, drop, getD, replicate}
@@ -30,3 +30,7 @@ counted mark least most width s =
 -- "past a count, as zeros": bytes, and zeros up to so many
 abbrev pub filled : ℕ → List ℕ → List ℕ
 filled size s = s ++ drop (length s) (replicate size 0)
+
+-- each element is a byte, as of every slice of bytes
+abbrev pub Bytes : List ℕ → Type 0
+Bytes s = (i : ℕ) → getD s i 0 < 256

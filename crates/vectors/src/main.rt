@@ -2,6 +2,8 @@
 // lengths of input and answer, input, answer. It prints the number of every case whose answer is another one, and then the count.
 mod block_cases;
 mod numbers;
+mod question_cases;
+mod text_cases;
 
 use libc::STDIN_FILENO;
 use libc::STDOUT_FILENO;
@@ -15,7 +17,11 @@ fn is_right(kind: u8, input: &[u8], answer: &[u8]) -> bool {
         3 => block_cases::event(input, answer),
         4 => block_cases::aspects(input, answer),
         5 => block_cases::reading(input, answer),
+        6 => question_cases::question(input, answer),
+        7 => question_cases::key(input, answer),
+        8 => question_cases::run(input, answer),
         9 => numbers::typed(input, answer),
+        10 => text_cases::text(input, answer),
         _ => false,
     }
 }
@@ -40,7 +46,7 @@ fn runs_right(kind: u8, n: usize, m: usize, input: &mut [u8], answer: &mut [u8])
 fn case_right(head: [u8; 5]) -> bool {
     let n = short(head[1], head[2]);
     let m = short(head[3], head[4]);
-    let mut input = [0u8; 256];
+    let mut input = [0u8; 2048];
     let mut answer = [0u8; 4096];
     runs_right(head[0], n, m, &mut input, &mut answer)
 }

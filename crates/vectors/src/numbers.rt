@@ -29,7 +29,13 @@ pub fn typed(input: &[u8], answer: &[u8]) -> bool {
     let pattern = word(input[14], input[15], input[16], input[17]);
     let mut room = [165u8; 15];
     let refusal = folvkin::marking_calls::folvkin_mark(
-        input[0], amount, speed, tolerance, input[13], pattern, &mut room,
+        input[0],
+        amount,
+        speed,
+        tolerance,
+        input[13],
+        pattern,
+        &mut room,
     );
     line_is(refusal, &room, answer)
 }

@@ -31,9 +31,10 @@ written : tie.Need-returns
 written c =
     let d = c .before .before .before .before .before .before in
     let a = d .before .before .before .before .args in
-    let none : situation-refusal (a .n) (a .b) (a .si .now) ≡ 0 = sym (d .before .folvkin-situation .ensures) ∙ d .if1 .taken in
-    (rw (eq-eqb _ _ none, le-leb _ _ (c .before .before .before .before .before .if2 .taken)),
-    rw (eq-eqb _ _ none, le-leb _ _ (c .before .before .before .before .before .if2 .taken)) (c .before .before .show .ensures ∙ rw (c .before .before .before .before .situation-of .ensures)))
+    let none : situation-refusal (a .n) (a .b) (a .si .now) ≡ 0 = sym (d .before .folvkin-situation .ensures) ∙ d .if1 .taken in (
+      rw (eq-eqb _ _ none, le-leb _ _ (c .before .before .before .before .before .if2 .taken)),
+      rw (eq-eqb _ _ none, le-leb _ _ (c .before .before .before .before .before .if2 .taken)) (c .before .before .show .ensures ∙ rw (c .before .before .before .before .situation-of .ensures)),
+    )
 
 too-short : tie.Need-returns-2
 too-short c =
@@ -46,7 +47,7 @@ refused c =
     let a = c .before .before .before .before .args in
     let own : c .before .folvkin-situation .result ≡ situation-refusal (a .n) (a .b) (a .si .now) = c .before .folvkin-situation .ensures in
     let same : aspects-refusal (a .n) (a .b) (a .si .now) (a .room .now) ≡ situation-refusal (a .n) (a .b) (a .si .now) =
-      rw (ne-eqb (situation-refusal (a .n) (a .b) (a .si .now)) 0 (λ e. c .if1 .left (own ∙ e))) in
+    rw (ne-eqb (situation-refusal (a .n) (a .b) (a .si .now)) 0 (λ e. c .if1 .left (own ∙ e))) in
     (own ∙ sym same, rw (ne-eqb (aspects-refusal (a .n) (a .b) (a .si .now) (a .room .now)) 0 (λ e. c .if1 .left (own ∙ sym same ∙ e))))
 
 pub folvkin-aspects-spec : {M : Type 1} → statement M

@@ -16,20 +16,20 @@ accepted c =
     let d = k .before .before .before .before .before .before in
     let a = d .before .before .before .before .before .args in
     let own : d .apply .result .refusal ≡ event-refusal (a .n) (a .b) (a .si .now) (a .code) (a .argument) =
-      rw (eq-eqb _ _ (d .before .before .before .if1 .taken), d .apply .ensures, d .before .situation-of .ensures) in
+    rw (eq-eqb _ _ (d .before .before .before .if1 .taken), d .apply .ensures, d .before .situation-of .ensures) in
     let none : event-refusal (a .n) (a .b) (a .si .now) (a .code) (a .argument) ≡ 0 = sym own ∙ k .before .before .before .before .before .if2 .taken in
     let bytes = k .before .before .before in
     let body = bytes .situation-bytes .result in
     let same : length body ≡ length (a .si .now) = search needs in
     let written : body ≡ situation-bytes (applied (plan-of (a .n) (a .b)) (situation-of (a .si .now)) (a .code) (a .argument) .next) =
-      rw (bytes .situation-bytes .ensures, d .apply .ensures, d .before .situation-of .ensures) in
+    rw (bytes .situation-bytes .ensures, d .apply .ensures, d .before .situation-of .ensures) in
     (sym none, rw (eq-eqb (event-refusal (a .n) (a .b) (a .si .now) (a .code) (a .argument)) 0 none) (k .copy .ensures .1 ∙ overwritten body (a .si .now) same ∙ written))
 
 refused : tie.Need-returns-2
 refused c =
     let a = c .before .before .before .before .before .before .args in
     let own : c .before .apply .result .refusal ≡ event-refusal (a .n) (a .b) (a .si .now) (a .code) (a .argument) =
-      rw (eq-eqb _ _ (c .before .before .before .before .if1 .taken), c .before .apply .ensures, c .before .before .situation-of .ensures) in
+    rw (eq-eqb _ _ (c .before .before .before .before .if1 .taken), c .before .apply .ensures, c .before .before .situation-of .ensures) in
     (own, rw (ne-eqb (event-refusal (a .n) (a .b) (a .si .now) (a .code) (a .argument)) 0 (λ e. c .if2 .left (own ∙ e))))
 
 pub folvkin-event-spec : {M : Type 1} → statement M

@@ -44,9 +44,13 @@ loop-again : tie.Need-loop-again Inv-loop μ-loop
 loop-again c =
     let l = c .before .before .before .loop in
     let a = c .before .before .before .before .before .args in
-    let fits : l .i < length (a .room .now) = search needs in
-    (search needs, (search needs,
-    rw (l .inv .1 .1, c .aspect-of .ensures, c .before .signal-at .ensures) (one-written (a .plan) (a .x) (a .room .now) (l .i) fits)))
+    let fits : l .i < length (a .room .now) = search needs in (
+      search needs,
+      (
+        search needs,
+        rw (l .inv .1 .1, c .aspect-of .ensures, c .before .signal-at .ensures) (one-written (a .plan) (a .x) (a .room .now) (l .i) fits),
+      ),
+    )
 
 same-length : tie.Need-same-length Inv-loop μ-loop
 same-length c = search needs

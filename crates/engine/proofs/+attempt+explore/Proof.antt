@@ -1,0 +1,193 @@
+-- Exploring a situation and trying its events, each by the other's promise. In the cycle the remaining length falls, in the loop over the events the places that are left. The loop's invariant: what the events from here on put into the room gives what all of them give.
+use Prim.Native.Nat.{ℕ, _≤_, _<_, _+_, _-_, _*_, _/_}
+use mathlib.Core.Path.{_≡_, refl, sym, ap, _∙_}
+use mathlib.Core.Logic.{⊎-elim}
+use mathlib.Core.Bool.{Bool, false}
+use mathlib.Core.List.{List, map}
+use native.Mathlib.Omega.{arith}
+use lib.ListN.{length, drop}
+use borrow.Author.Tests.{eq-eqb, ne-eqb}
+use borrow.Fn.Kinds.{In}
+use borrow.Fn.PlainCycle.{Measures, is, falls, and}
+use Rattle.keylaws.specs.Parts.{Part, handed}
+use Rattle.keylaws.specs.Walk.{tries, walk}
+use Rattle.keylaws.specs.Sheet.{grows, put}
+use Rattle.keylaws.proofs.WalkSteps.{try-none, try-refused, try-full, try-on, node-leaf, node-full, node-on}
+use Rattle.block.specs.declared.situation.Situation.{Situation}
+use Rattle.events.specs.declared.Outcome.{Outcome}
+use Rattle.rules.specs.RulesOf.{rulesOf}
+use Rattle.engine.specs.declared.Ask.{Ask}
+use Rattle.engine.proofs.attempt.Reads as attempt
+use Rattle.engine.proofs.attempt.Kinds as attempt-kinds
+use Rattle.engine.proofs.+attempt+explore.Lts-attempt as attempt-lts
+use Rattle.engine.proofs.explore.Reads as explore
+use Rattle.engine.proofs.explore.Kinds as explore-kinds
+use Rattle.engine.proofs.+attempt+explore.Lts-explore as explore-lts
+use Rattle.engine.proofs.own_answer.Reads as own-answer-reads
+use Rattle.engine.proofs.start_of.Reads as start-of-reads
+use Rattle.rules.proofs.tries.try_event.Reads as try-event-reads
+use Rattle.slots.proofs.room.grow_slot.Reads as grow-slot-reads
+use Rattle.engine.proofs.+attempt+explore.{statement}
+use Rattle.engine.proofs.+attempt+explore.Tie.{close}
+
+abbrev μ-attempt : Measures 3 attempt-kinds.ps ℕ
+μ-attempt κs a = 2 * (a .1 .0 .left)
+
+abbrev μ-explore : Measures 3 explore-kinds.ps ℕ
+μ-explore κs a = 2 * (a .1 .0 .left) + 1
+
+abbrev attempt-at : ℕ → In 3 attempt-kinds.ps
+attempt-at t = and 3 attempt-kinds.ps (is 3 attempt-kinds.ps μ-attempt t) attempt.Pre
+
+abbrev attempt-below : ℕ → In 3 attempt-kinds.ps
+attempt-below t = and 3 attempt-kinds.ps (falls 3 attempt-kinds.ps _<_ μ-attempt t) attempt.Pre
+
+abbrev explore-at : ℕ → In 3 explore-kinds.ps
+explore-at t = and 3 explore-kinds.ps (is 3 explore-kinds.ps μ-explore t) explore.Pre
+
+abbrev explore-below : ℕ → In 3 explore-kinds.ps
+explore-below t = and 3 explore-kinds.ps (falls 3 explore-kinds.ps _<_ μ-explore t) explore.Pre
+
+abbrev attempt-calls : ℕ → attempt-lts.Claims
+attempt-calls t = (start-of-reads.Asked, start-of-reads.Learnt, try-event-reads.Asked, try-event-reads.Learnt, grow-slot-reads.Asked, grow-slot-reads.Learnt, explore-below t, explore.Post)
+
+abbrev explore-calls : ℕ → explore-lts.Claims
+explore-calls t = (own-answer-reads.Asked, own-answer-reads.Learnt, attempt-below t, attempt.Post)
+
+-- what the events from a place on put into the room
+abbrev written : Situation → Ask → List ℕ → List ℕ → List ℕ → ℕ → ℕ → Bool → ℕ → Part → Part
+written x ask events readings slot depth left on place o =
+    let R = rulesOf (ask .plan) events readings in
+    put o (map (grows slot depth) (tries R (walk R (left - 1) (drop (depth + 1 + 1) (ask .from))) x on place (length events / 2 + 1 - place)))
+
+abbrev attempt-Inv-loop : attempt-lts.InvT-loop
+attempt-Inv-loop x ask events readings room₀ n slot depth left on₀ place₀ count₀ room on place count =
+    (1 ≤ place)
+    × (6 * count ≤ length room)
+    × (length room ≡ length room₀)
+    × (written x ask events readings slot depth left on place (handed room count false) ≡ written x ask events readings slot depth left on₀ place₀ (handed room₀ count₀ false))
+
+abbrev attempt-μ-loop : attempt-lts.MeasureT-loop
+attempt-μ-loop x ask events readings room₀ n slot depth left on₀ place₀ count₀ room on place count = n + 1 - place
+
+attempt-start-of-requires : (t : ℕ) → attempt-lts.Need-start-of-requires (attempt-calls t) (attempt-at t) attempt.Post attempt-Inv-loop attempt-μ-loop
+attempt-start-of-requires t c κs = omega arith
+
+attempt-loop-holds : (t : ℕ) → attempt-lts.Need-loop-holds (attempt-calls t) (attempt-at t) attempt.Post attempt-Inv-loop attempt-μ-loop
+attempt-loop-holds t c = (omega arith, omega arith, refl, refl)
+
+attempt-try-event-requires : (t : ℕ) → attempt-lts.Need-try-event-requires (attempt-calls t) (attempt-at t) attempt.Post attempt-Inv-loop attempt-μ-loop
+attempt-try-event-requires t c κs = omega arith
+
+attempt-grow-slot-requires : (t : ℕ) → attempt-lts.Need-grow-slot-requires (attempt-calls t) (attempt-at t) attempt.Post attempt-Inv-loop attempt-μ-loop
+attempt-grow-slot-requires t c κs = omega (arith, c .before .before .before .before .before .before .before .before .before .before .before .pre)
+
+attempt-add-t22 : (t : ℕ) → attempt-lts.Need-add-t22 (attempt-calls t) (attempt-at t) attempt.Post attempt-Inv-loop attempt-μ-loop
+attempt-add-t22 t c = omega (arith, c .before .before .before .before .before .before .before .before .before .before .before .before .pre)
+
+attempt-sub-t23 : (t : ℕ) → attempt-lts.Need-sub-t23 (attempt-calls t) (attempt-at t) attempt.Post attempt-Inv-loop attempt-μ-loop
+attempt-sub-t23 t c = omega (arith, c .before .before .before .before .before .before .before .before .before .before .before .before .pre)
+
+attempt-explore-requires : (t : ℕ) → attempt-lts.Need-explore-requires (attempt-calls t) (attempt-at t) attempt.Post attempt-Inv-loop attempt-μ-loop
+attempt-explore-requires t c κs =
+    let l = c .before .before .before .before .before .before in
+    let a = l .before .before .before .before .before .before .before in
+    omega (arith, a .pre, l .loop .inv .1)
+
+attempt-same-length : (t : ℕ) → attempt-lts.Need-same-length (attempt-calls t) (attempt-at t) attempt.Post attempt-Inv-loop attempt-μ-loop
+attempt-same-length t c = omega arith
+
+attempt-returns : (t : ℕ) → attempt-lts.Need-returns (attempt-calls t) (attempt-at t) attempt.Post attempt-Inv-loop attempt-μ-loop
+attempt-returns t c =
+    let e = c .before .before .before in
+    let g = e .before .before in
+    let r = g .before .before .before in
+    let l = r .before .before in
+    (rw (← l .before .start-of .ensures .0, ← l .before .start-of .ensures .1 .0) (try-full _ _ _ _ _ _ _ _ (r .try-event .result .next) (g .grow-slot .result) _ _ _ (r .before .loop-test .taken) (eq-eqb _ 0 (ap (λ (o : Outcome). o .refusal) (sym (r .try-event .ensures)) ∙ g .before .if1 .taken)) (ap (λ (o : Outcome). o .next) (r .try-event .ensures)) (g .grow-slot .ensures) (e .explore .ensures .0) (c .if2 .taken) ∙ l .loop .inv .3), e .explore .ensures .1)
+
+attempt-add-place : (t : ℕ) → attempt-lts.Need-add-place (attempt-calls t) (attempt-at t) attempt.Post attempt-Inv-loop attempt-μ-loop
+attempt-add-place t c = omega (arith, c .before .before .before .before .before .before .before .before .before .before .before .pre)
+
+attempt-loop-less : (t : ℕ) → attempt-lts.Need-loop-less (attempt-calls t) (attempt-at t) attempt.Post attempt-Inv-loop attempt-μ-loop
+attempt-loop-less t c = omega arith
+
+attempt-loop-again : (t : ℕ) → attempt-lts.Need-loop-again (attempt-calls t) (attempt-at t) attempt.Post attempt-Inv-loop attempt-μ-loop
+attempt-loop-again t c =
+    let r = c .before .before in
+    let l = r .before .before in
+    ⊎-elim
+    (λ w. (omega arith, rw (w .7, w .8) (w .3 .ensures .1), rw (w .7) (omega (arith, l .loop .inv .2)), rw (w .7, w .8) (try-on _ _ _ _ _ _ _ _ (r .try-event .result .next) (w .1 .result) _ _ _ (r .before .loop-test .taken) (eq-eqb _ 0 (ap (λ (o : Outcome). o .refusal) (sym (r .try-event .ensures)) ∙ w .0 .taken)) (ap (λ (o : Outcome). o .next) (r .try-event .ensures)) (w .1 .ensures) (w .3 .ensures .0) _ (w .6 .left) refl ∙ l .loop .inv .3)))
+    (λ w. (omega arith, rw (w .1, w .2) (l .loop .inv .1), rw (w .1) (l .loop .inv .2), rw (w .1, w .2) (try-refused _ _ _ _ _ _ _ _ _ (r .before .loop-test .taken) (ne-eqb _ 0 (λ z. w .0 .left (ap (λ (o : Outcome). o .refusal) (r .try-event .ensures) ∙ z))) refl ∙ l .loop .inv .3)))
+    (c .if1 .came)
+
+attempt-same-length-2 : (t : ℕ) → attempt-lts.Need-same-length-2 (attempt-calls t) (attempt-at t) attempt.Post attempt-Inv-loop attempt-μ-loop
+attempt-same-length-2 t c = omega arith
+
+attempt-returns-2 : (t : ℕ) → attempt-lts.Need-returns-2 (attempt-calls t) (attempt-at t) attempt.Post attempt-Inv-loop attempt-μ-loop
+attempt-returns-2 t c =
+    let l = c .before in
+    (rw (← l .before .start-of .ensures .0, ← l .before .start-of .ensures .1 .0) (try-none _ _ _ _ _ _ _ _ (c .loop-test .left) ∙ l .loop .inv .3), l .loop .inv .1)
+
+explore-own-answer-requires : (t : ℕ) → explore-lts.Need-own-answer-requires (explore-calls t) (explore-at t) explore.Post
+explore-own-answer-requires t c κs = omega arith
+
+explore-same-length : (t : ℕ) → explore-lts.Need-same-length (explore-calls t) (explore-at t) explore.Post
+explore-same-length t c = omega arith
+
+explore-returns : (t : ℕ) → explore-lts.Need-returns (explore-calls t) (explore-at t) explore.Post
+explore-returns t c =
+    let a = c .before .before .before in
+    (node-full _ _ _ _ _ _ _ _ _ _ (a .own-answer .ensures .0) _ (c .if1 .taken), a .own-answer .ensures .1)
+
+explore-same-length-2 : (t : ℕ) → explore-lts.Need-same-length-2 (explore-calls t) (explore-at t) explore.Post
+explore-same-length-2 t c = omega arith
+
+explore-returns-2 : (t : ℕ) → explore-lts.Need-returns-2 (explore-calls t) (explore-at t) explore.Post
+explore-returns-2 t c =
+    let a = c .before .before .before .before .before in
+    (node-leaf _ _ _ _ _ _ _ _ _ _ (a .own-answer .ensures .0) _ (c .if2 .taken), a .own-answer .ensures .1)
+
+explore-attempt-requires : (t : ℕ) → explore-lts.Need-attempt-requires (explore-calls t) (explore-at t) explore.Post
+explore-attempt-requires t c κs = omega arith
+
+explore-same-length-3 : (t : ℕ) → explore-lts.Need-same-length-3 (explore-calls t) (explore-at t) explore.Post
+explore-same-length-3 t c = omega arith
+
+explore-returns-3 : (t : ℕ) → explore-lts.Need-returns-3 (explore-calls t) (explore-at t) explore.Post
+explore-returns-3 t c =
+    let b = c .before .before in
+    let f = b .before .before in
+    let a = f .before .before .before .before .before in
+    (node-on _ _ _ _ _ _ _ _ _ _ (a .own-answer .ensures .0) _ _ (f .if2 .left) _ _ refl refl (f .before .before .if1 .left) (b .attempt .ensures .0), b .attempt .ensures .1)
+
+pub +attempt+explore-spec : {M : Type 1} → statement M
++attempt+explore-spec = close μ-attempt μ-explore (λ t. attempt-lts.spec (attempt-calls t)
+    (attempt-at t)
+    attempt.Post
+    attempt-Inv-loop
+    attempt-μ-loop
+    (attempt-start-of-requires t)
+    (attempt-loop-holds t)
+    (attempt-try-event-requires t)
+    (attempt-grow-slot-requires t)
+    (attempt-add-t22 t)
+    (attempt-sub-t23 t)
+    (attempt-explore-requires t)
+    (attempt-same-length t)
+    (attempt-returns t)
+    (attempt-add-place t)
+    (attempt-loop-less t)
+    (attempt-loop-again t)
+    (attempt-same-length-2 t)
+    (attempt-returns-2 t))
+    λ t. explore-lts.spec (explore-calls t)
+    (explore-at t)
+    explore.Post
+    (explore-own-answer-requires t)
+    (explore-same-length t)
+    (explore-returns t)
+    (explore-same-length-2 t)
+    (explore-returns-2 t)
+    (explore-attempt-requires t)
+    (explore-same-length-3 t)
+    (explore-returns-3 t)

@@ -1,0 +1,171 @@
+// A part of a key, written into lent room: exploring a situation tries its events, and trying them explores where each leads.
+ghost use mathlib.Core.Path.{_≡_};
+ghost use mathlib.Core.Bool.{true, false};
+ghost use Prim.Native.Nat.{_+_, _*_, _/_, _≤_, _<_};
+ghost use lib.ListN.{length, getD};
+ghost use Rattle.keylaws.specs.Continuation.{isContinuation};
+ghost use Rattle.keylaws.specs.Parts.{handed, partAfter};
+ghost use Rattle.keylaws.specs.Walk.{aims, starts};
+ghost use Rattle.rules.specs.RulesOf.{rulesOf};
+ghost use Rattle.engine.specs.Walked.{own, explored, attempted};
+use block::line::Plan;
+use block::situation::Situation;
+use rules::tries::all_hold;
+use rules::tries::try_event;
+use slots::form::FROM_START;
+use slots::room::Part;
+use slots::room::grow_slot;
+use slots::room::put_slot;
+
+// What stays the same through a call: the plan, and where the key is continued.
+pub struct Ask {
+    pub plan: Plan,
+    pub from: [u8; 6],
+}
+
+// A situation in the walk: the slot that leads to it and its number of places, how many more it may have, whether it lies on the way to the
+// continuation, and how many slots are written.
+pub struct Node {
+    pub slot: [u8; 6],
+    pub depth: usize,
+    pub left: usize,
+    pub on: bool,
+    pub count: usize,
+}
+
+// Where a situation's events start, and whether that place lies on the way to the continuation.
+pub struct Start {
+    pub place: usize,
+    pub on: bool,
+}
+
+fn start_of(from: [u8; 6], depth: usize, on: bool) -> Start
+    requires { ⌜ depth < 5 ⌝ }
+    ensures on { λ r. ⌜ r .on ≡ aims on (getD from (depth + 1) 0) ⌝ }
+    ensures place { λ r. ⌜ r .place ≡ starts on (getD from (depth + 1) 0) ⌝ }
+    ensures first { λ r. ⌜ 1 ≤ r .place ⌝ }
+{
+    if on {
+        let place = from[depth + 1] as usize;
+        if 0 < place {
+            return Start { place, on: true };
+        }
+    }
+    Start {
+        place: 1,
+        on: false,
+    }
+}
+
+// The situation's own answer, unless the walk is still on its way to the continuation.
+fn own_answer(plan: Plan, x: Situation, at: Node, readings: &[u8], room: &mut [u8]) -> Part
+    requires { ⌜ 6 * at .count ≤ length (now room) ⌝ }
+    ensures put { λ r. ⌜ handed (now (room .exit)) (r .count) (r .more) ≡ own plan (now (readings .entry)) x at (now (room .entry)) ⌝ }
+    ensures fits { λ r. ⌜ 6 * r .count ≤ length (now (room .exit)) ⌝ }
+{
+    let count = at.count;
+    if at.on {
+        return Part { count, more: false };
+    }
+    if all_hold(plan, x, readings) {
+        let slot = at.slot;
+        put_slot(slot, count, room)
+    } else {
+        Part { count, more: false }
+    }
+}
+
+// The answers from a situation: the empty one if the readings hold, then those of its events, while length remains.
+fn explore(
+    x: Situation,
+    at: Node,
+    ask: Ask,
+    events: &[u8],
+    readings: &[u8],
+    room: &mut [u8],
+) -> Part
+    requires { ⌜ 6 * at .count ≤ length (now room) ⌝ }
+    requires { ⌜ (length (now events) ≤ 24) × (at .depth + at .left ≤ 5) ⌝ }
+    ensures put { λ r. ⌜ handed (now (room .exit)) (r .count) (r .more) ≡ explored ask (now (events .entry)) (now (readings .entry)) x at (now (room .entry)) ⌝ }
+    ensures fits { λ r. ⌜ 6 * r .count ≤ length (now (room .exit)) ⌝ }
+{
+    let own = own_answer(ask.plan, x, at, readings, room);
+    if own.more {
+        return own;
+    }
+    if at.left == 0 {
+        return own;
+    }
+    let mut rest = at;
+    rest.count = own.count;
+    attempt(x, rest, ask, events, readings, room)
+}
+
+// For each event in turn that is accepted, the answers from the situation that it leads to.
+fn attempt(
+    x: Situation,
+    at: Node,
+    ask: Ask,
+    events: &[u8],
+    readings: &[u8],
+    room: &mut [u8],
+) -> Part
+    requires { ⌜ 6 * at .count ≤ length (now room) ⌝ }
+    requires { ⌜ (length (now events) ≤ 24) × (at .depth + at .left ≤ 5) × (1 ≤ at .left) ⌝ }
+    ensures put { λ r. ⌜ handed (now (room .exit)) (r .count) (r .more) ≡ attempted ask (now (events .entry)) (now (readings .entry)) x at (now (room .entry)) ⌝ }
+    ensures fits { λ r. ⌜ 6 * r .count ≤ length (now (room .exit)) ⌝ }
+{
+    let n = events.len() / 2;
+    let slot = at.slot;
+    let depth = at.depth;
+    let left = at.left;
+    let from = ask.from;
+    let start = start_of(from, depth, at.on);
+    let mut on = start.on;
+    let mut place = start.place;
+    let mut count = at.count;
+    while place <= n {
+        let tried = try_event(ask.plan, x, events, place);
+        if tried.refusal == 0 {
+            let node = Node {
+                slot: grow_slot(slot, depth, place),
+                depth: depth + 1,
+                left: left - 1,
+                on,
+                count,
+            };
+            let part = explore(tried.next, node, ask, events, readings, room);
+            if part.more {
+                return part;
+            }
+            count = part.count;
+        }
+        on = false;
+        place += 1;
+    }
+    Part { count, more: false }
+}
+
+// A part of the key: the slots that come after the continuation, as many as the room holds or remain.
+pub fn key_part(
+    start: Situation,
+    limit: usize,
+    ask: Ask,
+    events: &[u8],
+    readings: &[u8],
+    room: &mut [u8],
+) -> Part
+    requires { ⌜ (length (now events) ≤ 24) × (limit ≤ 5) ⌝ }
+    requires { ⌜ isContinuation (length (now events) / 2) limit (ask .from) ≡ true ⌝ }
+    ensures { λ r. ⌜ handed (now (room .exit)) (r .count) (r .more) ≡ partAfter (rulesOf (ask .plan) (now (events .entry)) (now (readings .entry))) limit start (ask .from) (now (room .entry)) ⌝ }
+{
+    let from = ask.from;
+    let root = Node {
+        slot: [0u8; 6],
+        depth: 0,
+        left: limit,
+        on: from[0] != FROM_START,
+        count: 0,
+    };
+    explore(start, root, ask, events, readings, room)
+}

@@ -1,0 +1,50 @@
+// Questions, their keys in parts, and candidates' slots.
+ghost use mathlib.Core.Path.{_≡_};
+ghost use Prim.Native.Nat.{_+_, _*_, _≤_};
+ghost use Rattle.keys.specs.Calls.{left-by, fetched};
+ghost use Rattle.paper.specs.Read.{readOf};
+ghost use Rattle.folvkin.specs.Questions.{flag, question-refusal, key-packed, key-room, run-packed};
+use keys::key;
+use keys::run;
+use paper::read::read_question;
+
+fn flag(v: bool) -> u8
+    ensures { λ r. ⌜ (r ≡ flag v) × (r ≤ 1) ⌝ }
+{
+    if v {
+        return 1;
+    }
+    0
+}
+
+#[no_mangle]
+pub extern "C" fn folvkin_question(bytes: &[u8]) -> u8
+    ensures { λ r. ⌜ r ≡ question-refusal (now (bytes .entry)) ⌝ }
+{
+    let read = read_question(bytes);
+    read.refusal
+}
+
+// Refusal + 256 * more + 65536 * count. The slots are written into the room, later bytes keep their values.
+#[no_mangle]
+pub extern "C" fn folvkin_key(bytes: &[u8], after: &[u8], room: &mut [u8]) -> u64
+    ensures { λ r. ⌜ r ≡ key-packed (now (bytes .entry)) (now (after .entry)) (now (room .entry)) ⌝ }
+    ensures { λ _. ⌜ now (room .exit) ≡ key-room (now (bytes .entry)) (now (after .entry)) (now (room .entry)) ⌝ }
+{
+    let part = key(bytes, after, room);
+    let more = flag(part.more);
+    part.refusal as u64 + 256 * (more as u64) + 65536 * part.count
+}
+
+// Refusal + 256 * place + 65536 * event's refusal + 16777216 * holds.
+#[no_mangle]
+pub extern "C" fn folvkin_run(bytes: &[u8], slot: &[u8]) -> u32
+    ensures { λ r. ⌜ r ≡ run-packed (now (bytes .entry)) (now (slot .entry)) ⌝ }
+{
+    let ran = run(bytes, slot);
+    let holds = flag(ran.holds);
+    ran.refusal as u32
+        + 256 * (ran.place as u32)
+        + 65536 * (ran.event_refusal as u32)
+        + 16777216 * (holds as u32)
+}

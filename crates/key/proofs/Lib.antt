@@ -1,0 +1,4 @@
+pub mod OneCall
+pub mod FewAnswers
+pub mod SixBytes
+pub mod Steps

@@ -1,0 +1,22 @@
+use mathlib.Core.Path.{sym}
+use lib.Seq.{length-take-le}
+use borrow.Author.Needs.{needs}
+use Rattle.key.proofs.print_ending.Statement.{statement}
+use Rattle.key.proofs.print_ending.Tie as tie
+
+pub print-ending-spec : {M : Type 1} → statement M
+print-ending-spec =
+    tie.close
+    (tie.spec
+    (λ c. search needs)
+    (λ c κs. search needs)
+    (λ c. search needs)
+    (λ c. let w = c .before .before .write-refused in sym (length-take-le (w .result) (w .last .1 .0) (w .ensures .1 .1)))
+    (λ c κs. search needs)
+    (λ c. search needs)
+    (λ c. search needs)
+    (λ c κs. search needs)
+    (λ c. search needs)
+    (λ c. let w = c .before .before .write-total in sym (length-take-le (w .result) (w .last .1 .0) (w .ensures .1 .1)))
+    (λ c κs. search needs)
+    (λ c. search needs))

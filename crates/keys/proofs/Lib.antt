@@ -1,0 +1,6 @@
+pub mod Accepted
+pub mod SixBytes
+pub mod EventsCounted
+pub mod KeyOfAQuestion
+pub mod OneResult
+pub mod CountBounded

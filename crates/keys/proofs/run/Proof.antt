@@ -1,0 +1,22 @@
+use mathlib.Core.Path.{refl, sym, ap, _∙_, subst}
+use borrow.Author.Needs.{needs}
+use borrow.Author.Tests.{eq-eqb, ne-eqb}
+use Rattle.paper.specs.declared.read.Read.{Read}
+use Rattle.keys.specs.Key.{Bounded}
+use Rattle.keys.proofs.Accepted.{bounded}
+use Rattle.keys.proofs.run.Statement.{statement}
+use Rattle.keys.proofs.run.Tie as tie
+
+returns : tie.Need-returns
+returns c = rw (c .not-run .ensures, ← c .before .before .before .read-question .ensures, ne-eqb _ _ (c .before .if1 .taken)) refl
+
+run-in-requires : tie.Need-run-in-requires
+run-in-requires c κs =
+    let r = c .before .before in
+    subst (λ (d : Read). Bounded (d .question)) (sym (r .read-question .ensures)) (bounded _ (ap (λ (d : Read). d .refusal) (sym (r .read-question .ensures)) ∙ c .if1 .left))
+
+returns-2 : tie.Need-returns-2
+returns-2 c = rw (← c .before .before .before .read-question .ensures, eq-eqb _ _ (c .before .if1 .left)) (c .run-in .ensures)
+
+pub run-spec : {M : Type 1} → statement M
+run-spec = tie.close (tie.spec (λ c κs. search needs) (λ c κs. search needs) returns run-in-requires returns-2)

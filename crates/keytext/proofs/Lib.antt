@@ -1,0 +1,7 @@
+pub mod RoomLaws
+pub mod DecimalLaws
+pub mod WordLaws
+pub mod LineLaws
+pub mod LinesOfSlots
+pub mod TextOfKey
+pub mod DecimalReadsBack

@@ -1,0 +1,28 @@
+// Numbers in decimal.
+ghost use mathlib.Core.Path.{_≡_};
+ghost use Prim.Native.Nat.{_+_, _≤_, _<_};
+ghost use lib.ListN.{length};
+ghost use Rattle.keytext.specs.Decimal.{decimal, digit as Decimal·digit};
+ghost use Rattle.keytext.specs.Room.{over};
+
+fn digit(d: u64) -> u8
+    requires { ⌜ d < 10 ⌝ }
+    ensures { λ r. ⌜ r ≡ Decimal·digit d ⌝ }
+{
+    b'0' + d as u8
+}
+
+// The number in decimal from `at` on; returns where it ends.
+pub(crate) fn put_number(n: u64, at: usize, room: &mut [u8]) -> usize
+    requires { ⌜ at + length (decimal n) ≤ length (now room) ⌝ }
+    ensures end { λ r. ⌜ r ≡ at + length (decimal n) ⌝ }
+    ensures room { λ _. ⌜ now (room .exit) ≡ over at (decimal n) (now (room .entry)) ⌝ }
+{
+    if n < 10 {
+        room[at] = digit(n);
+        return at + 1;
+    }
+    let last = put_number(n / 10, at, room);
+    room[last] = digit(n % 10);
+    last + 1
+}

@@ -1,0 +1,10 @@
+pub mod Steps
+pub mod Accepted
+pub mod Assembled
+pub mod Laid
+pub mod WholeForm
+pub mod WrittenIsRead
+pub mod OneForm
+pub mod PartsAreRefused
+pub mod BytesNoSituationHas
+pub mod AcceptedQuestions

@@ -1,0 +1,43 @@
+use mathlib.Core.Path.{_≡_, sym}
+use native.Mathlib.Omega.{arith}
+use borrow.Author.Needs.{needs}
+use lib.ListN.{length}
+use lib.Seq.{length-take-le}
+use Rattle.paper.proofs.judge.body_refusal.Statement.{statement}
+use Rattle.paper.proofs.judge.body_refusal.Tie as tie
+
+events-long : (c : tie.Start) → length (c .args .q .events .bytes) ≡ 24
+events-long c = search needs
+
+readings-long : (c : tie.Start) → length (c .args .q .readings .bytes) ≡ 18
+readings-long c = search needs
+
+array-share-prefix-events : tie.Need-array-share-prefix-events
+array-share-prefix-events c = omega (arith, events-long (c .before .before .before .before))
+
+slice-aggregate-lists-refusal : tie.Need-slice-aggregate-lists-refusal
+slice-aggregate-lists-refusal c = sym (length-take-le _ _ (omega (arith, events-long (c .before .before .before .before .before))))
+
+array-share-prefix-readings : tie.Need-array-share-prefix-readings
+array-share-prefix-readings c = omega (arith, readings-long (c .before .before .before .before .before))
+
+slice-aggregate-lists-refusal-2 : tie.Need-slice-aggregate-lists-refusal-2
+slice-aggregate-lists-refusal-2 c = sym (length-take-le _ _ (omega (arith, readings-long (c .before .before .before .before .before .before))))
+
+returns : tie.Need-returns
+returns c = rw (← c .before .before .before .before .wide .ensures .0, ← c .before .before .before .wide2 .ensures .0) (c .lists-refusal .ensures)
+
+pub body-refusal-spec : {M : Type 1} → statement M
+body-refusal-spec =
+    tie.close
+    (tie.spec
+    (λ c κs. search needs)
+    (λ c. search needs)
+    (λ c κs. search needs)
+    (λ c. search needs)
+    array-share-prefix-events
+    slice-aggregate-lists-refusal
+    array-share-prefix-readings
+    slice-aggregate-lists-refusal-2
+    (λ c κs. search needs)
+    returns)

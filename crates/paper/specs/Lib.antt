@@ -1,0 +1,4 @@
+pub mod Question
+pub mod Refusal
+pub mod Read
+pub mod Write

@@ -1,0 +1,2 @@
+pub mod RulesOf
+pub mod Told

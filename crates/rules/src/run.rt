@@ -1,0 +1,55 @@
+// A candidate's run.
+ghost use mathlib.Core.Path.{_≡_};
+ghost use Prim.Native.Nat.{_/_, _≤_};
+ghost use lib.ListN.{length};
+ghost use Rattle.keylaws.specs.Key.{Permitted};
+ghost use Rattle.keylaws.specs.Run.{run};
+ghost use Rattle.rules.specs.RulesOf.{rulesOf};
+ghost use Rattle.rules.specs.Told.{outcome};
+use super::tries::all_hold;
+use super::tries::try_event;
+use block::line::Plan;
+use block::situation::Situation;
+
+// The place of the first refused event within the slot, from 1, and its refusal, or 0, 0 and whether all readings hold.
+pub struct Told {
+    pub place: u8,
+    pub refusal: u8,
+    pub holds: bool,
+}
+
+// It stops at the first refused event and tells its place and refusal, or says whether all readings hold.
+pub fn run_places(
+    plan: Plan,
+    start: Situation,
+    events: &[u8],
+    readings: &[u8],
+    places: &[u8],
+) -> Told
+    requires { ⌜ (length (now places) ≤ 5) × Permitted (length (now events) / 2) (now places) ⌝ }
+    ensures { λ r. ⌜ outcome r ≡ run (rulesOf plan (now (events .entry)) (now (readings .entry))) start (now (places .entry)) ⌝ }
+{
+    let mut x = start;
+    let mut i = 0;
+    let told = loop {
+        if i == places.len() {
+            break Told {
+                place: 0,
+                refusal: 0,
+                holds: all_hold(plan, x, readings),
+            };
+        }
+        let place = places[i] as usize;
+        let tried = try_event(plan, x, events, place);
+        if tried.refusal != 0 {
+            break Told {
+                place: (i + 1) as u8,
+                refusal: tried.refusal,
+                holds: false,
+            };
+        }
+        x = tried.next;
+        i += 1;
+    };
+    told
+}

@@ -1,0 +1,498 @@
+//! Measures the library against the plain implementation:
+//!
+//!     bench [--rounds R]
+//!
+//! Both run in the same process on the same inputs, by turns; the best of R
+//! rounds counts. A ratio is the library's time over the plain one's: below
+//! 1.00 the library is faster. Every measured call reads its question or
+//! situation from bytes and judges it, as a caller of the interface has it.
+//! Rooms are filled with bytes once before the measurement and never cleared
+//! in between. Both give the same answers, or the program stops.
+//!
+//! Where the library is not linked (see build.rs) only the plain
+//! implementation is measured: a time under an emulator says nothing.
+
+use std::hint::black_box;
+use std::process::ExitCode;
+use std::time::Instant;
+
+#[cfg(linked)]
+use folvkin_compare::Library;
+use folvkin_compare::cases::from_hex;
+use folvkin_compare::generate::{self, Search};
+use folvkin_compare::interface::{Interface, Plain};
+use folvkin_compare::plain::key::{SLOT, START};
+use folvkin_compare::plain::{Parts, Situation};
+use folvkin_compare::random::Random;
+
+/// Papers with large keys; see NOTES.md.
+const LARGEST: &str = "4c42100f53490100000000000000000000000000000000000045560c1302130c0300130e1308010113071305130f1304130a13015244004c4e05";
+const LARGEST_READ: &str = "4c42100f53490100000000000000000000000000000000000045560c1302130c0300130e1308010113071305130f1304130a13015244040500010401000301000110004c4e05";
+const ANNULLED: &str = "4c42050353490001020000000000000000010008000000000045560c040005000f001301130213031404160009000a02030111005244020300020103014c4e05";
+
+/// Something to measure, with either implementation.
+trait Work {
+    /// Does it all; what comes back depends on every answer.
+    fn work<I: Interface>(&mut self) -> u64;
+}
+
+fn main() -> ExitCode {
+    let words: Vec<String> = std::env::args().skip(1).collect();
+    let words: Vec<&str> = words.iter().map(String::as_str).collect();
+    let rounds = match words[..] {
+        [] => 15,
+        ["--rounds", number] => match number.parse() {
+            Ok(rounds) if rounds > 0 => rounds,
+            _ => return usage(),
+        },
+        _ => return usage(),
+    };
+    let bench = Bench { rounds };
+    if !cfg!(linked) {
+        println!(
+            "The library is not linked, so that there are no ratios: only the plain implementation is measured."
+        );
+    }
+    println!("Best of {rounds} rounds.\n");
+    bench.keys();
+    bench.calls();
+    bench.growth();
+    ExitCode::SUCCESS
+}
+
+fn usage() -> ExitCode {
+    eprintln!("usage: bench [--rounds R]");
+    ExitCode::from(2)
+}
+
+struct Bench {
+    rounds: u32,
+}
+
+/// The least time that a measurement is to take, so that the clock's steps do
+/// not matter.
+const LEAST: f64 = 0.002;
+
+/// Seconds for one time of the work, done so many times.
+fn seconds<I: Interface>(work: &mut impl Work, times: u32) -> (f64, u64) {
+    let mut answer = 0;
+    let started = Instant::now();
+    for _ in 0..times {
+        answer = black_box(work.work::<I>());
+    }
+    (started.elapsed().as_secs_f64() / f64::from(times), answer)
+}
+
+impl Bench {
+    fn head(&self, title: &str, of: &str) {
+        println!("| {title} | {of} | plain, ns each | library, ns each | ratio |");
+        println!("|---|---:|---:|---:|---:|");
+    }
+
+    /// Measures a work that does `count` things, and prints its line.
+    #[cfg(linked)]
+    fn line(&self, name: &str, count: usize, work: &mut impl Work) {
+        let (once, answer) = seconds::<Plain>(work, 1);
+        let (_, other) = seconds::<Library>(work, 1);
+        assert_eq!(answer, other, "{name}: the answers differ");
+        let times = (LEAST / once).ceil().clamp(1.0, 1e6) as u32;
+        let (mut plain, mut library) = (f64::INFINITY, f64::INFINITY);
+        for round in 0..self.rounds {
+            // By turns, and each the first of the two every second time.
+            if round % 2 == 0 {
+                plain = plain.min(seconds::<Plain>(work, times).0);
+                library = library.min(seconds::<Library>(work, times).0);
+            } else {
+                library = library.min(seconds::<Library>(work, times).0);
+                plain = plain.min(seconds::<Plain>(work, times).0);
+            }
+        }
+        let each = 1e9 / count.max(1) as f64;
+        println!(
+            "| {name} | {count} | {:.2} | {:.2} | {:.2} |",
+            plain * each,
+            library * each,
+            library / plain
+        );
+    }
+
+    #[cfg(not(linked))]
+    fn line(&self, name: &str, count: usize, work: &mut impl Work) {
+        let (once, _) = seconds::<Plain>(work, 1);
+        let times = (LEAST / once).ceil().clamp(1.0, 1e6) as u32;
+        let plain = (0..self.rounds).map(|_| seconds::<Plain>(work, times).0).fold(f64::INFINITY, f64::min);
+        println!("| {name} | {count} | {:.2} | | |", plain * 1e9 / count.max(1) as f64);
+    }
+
+    fn keys(&self) {
+        self.head("Keys", "sequences");
+        for (name, text) in [
+            ("largest, no readings", LARGEST),
+            ("largest, four readings", LARGEST_READ),
+            ("annulled, two readings", ANNULLED),
+        ] {
+            let bytes = from_hex(text).expect("hex");
+            let mut whole = WholeKey::new(bytes.clone());
+            let count = whole.count();
+            self.line(&format!("{name}: whole key in one call"), count, &mut whole);
+            for slots in [64, 1] {
+                let mut parts = KeyInParts { bytes: bytes.clone(), room: vec![1; slots * SLOT] };
+                self.line(&format!("{name}: {slots} a call"), count, &mut parts);
+            }
+        }
+        println!();
+    }
+
+    fn calls(&self) {
+        self.head("Calls", "calls");
+        let mut r = Random::new(1);
+        self.line("plan", 65_536, &mut Plans);
+        let situations: Vec<_> = (0..4096)
+            .map(|_| {
+                let line = generate::line(&mut r);
+                let si = generate::sound_or_reached(&mut r, &line).to_bytes();
+                let event = generate::event(&mut r, &line);
+                let (kind, argument) = loop {
+                    let (kind, argument) = generate::reading_bytes(&mut r, &line);
+                    if Plain::reading(line.sections(), line.frontier(), &si, kind, argument) & 255 == 0 {
+                        break (kind, argument);
+                    }
+                };
+                Given {
+                    n: line.sections(),
+                    b: line.frontier(),
+                    si,
+                    code: event.code,
+                    argument: event.argument,
+                    kind,
+                    of: argument,
+                }
+            })
+            .collect();
+        let count = situations.len() * Given::TIMES;
+        self.line("situation judged", count, &mut Situations(&situations));
+        self.line("event, accepted or refused", count, &mut Events(&situations));
+        let mut walk = Walk::new(&mut r);
+        self.line("event, on a walk", walk.events.len(), &mut walk);
+        self.line("aspects of all signals", count, &mut AllAspects(&situations));
+        self.line("reading", count, &mut Readings(&situations));
+        let questions: Vec<_> = (0..512)
+            .map(|_| {
+                let question = generate::question(&mut r, Search::Any);
+                (generate::question_bytes(&question), generate::slot(&mut r, &question, &[]))
+            })
+            .collect();
+        self.line("question read", questions.len() * 16, &mut Questions(&questions));
+        let damaged: Vec<_> = (0..512)
+            .map(|_| {
+                let question = generate::question(&mut r, Search::Any);
+                (generate::damaged(&mut r, &question), [0; SLOT])
+            })
+            .collect();
+        self.line("question read, damaged", damaged.len() * 16, &mut Questions(&damaged));
+        self.line("candidate's slot run", questions.len() * 16, &mut Runs(&questions));
+        let mut marks = Vec::new();
+        while marks.len() < 4096 {
+            let typed = generate::typed(&mut r);
+            if Plain::mark(
+                typed[0] as u8,
+                typed[1],
+                typed[2],
+                typed[3],
+                typed[4] as u8,
+                typed[5],
+                &mut [0; 13],
+            ) == 0
+            {
+                marks.push(typed);
+            }
+        }
+        self.line("number marked, all kinds of floats", marks.len() * 4, &mut Marks(&marks));
+        for typed in &mut marks {
+            // As candidates type: near the answer, in tenths.
+            let (amount, speed) = (f64::from(typed[1]), f64::from(typed[2]));
+            let exact = if typed[0] == 1 { 3.6 * amount / speed } else { speed * amount / 3.6 };
+            typed[4] = typed[0];
+            typed[5] = ((exact * 10.0).round() as f32 / 10.0).to_bits();
+        }
+        self.line("number marked, near the answer", marks.len() * 4, &mut Marks(&marks));
+        println!();
+    }
+
+    /// How the cost of a whole key grows with events, length and sections, and
+    /// that of aspects with sections.
+    fn growth(&self) {
+        let largest = from_hex(LARGEST_READ).expect("hex");
+        let parts = Parts::split(&largest).expect("a question");
+        self.head("Whole key by events (length 5)", "sequences");
+        for count in [1, 2, 4, 6, 8, 10, 12] {
+            let mut whole = WholeKey::of(Parts { events: &parts.events[..count], ..parts });
+            let sequences = whole.count();
+            self.line(&format!("{count} events"), sequences, &mut whole);
+        }
+        println!();
+        self.head("Whole key by length (12 events)", "sequences");
+        for length in 0..=5 {
+            let mut whole = WholeKey::of(Parts { length, ..parts });
+            let sequences = whole.count();
+            self.line(&format!("length {length}"), sequences, &mut whole);
+        }
+        println!();
+        self.head("Whole key by sections (12 events, length 4)", "sequences");
+        // Events and readings that every line has.
+        let events = [
+            [1, 0],
+            [1, 1],
+            [2, 1],
+            [3, 0],
+            [6, 0],
+            [6, 1],
+            [8, 1],
+            [17, 0],
+            [17, 1],
+            [19, 1],
+            [19, 2],
+            [12, 0],
+        ];
+        for sections in [2, 4, 8, 12, 16] {
+            let mut whole = WholeKey::of(Parts {
+                sections,
+                frontier: sections / 2,
+                situation: Situation::FRESH.to_bytes(),
+                events: &events,
+                readings: &[[1, 1, 0], [1, 129, 0], [4, 0, 0]],
+                length: 4,
+            });
+            let sequences = whole.count();
+            self.line(&format!("{sections} sections"), sequences, &mut whole);
+        }
+        println!();
+        self.head("Aspects by sections", "calls");
+        let mut r = Random::new(2);
+        for n in [2, 4, 8, 12, 16] {
+            let situations: Vec<_> = (0..2048)
+                .map(|_| {
+                    let line = folvkin_compare::plain::Line::new(n, n / 2).expect("a plan");
+                    let si = generate::sound_or_reached(&mut r, &line).to_bytes();
+                    Given { n, b: n / 2, si, code: 5, argument: 0, kind: 5, of: 0 }
+                })
+                .collect();
+            let count = situations.len() * Given::TIMES;
+            self.line(&format!("{n} sections"), count, &mut AllAspects(&situations));
+        }
+    }
+}
+
+struct WholeKey {
+    bytes: Vec<u8>,
+    room: Vec<u8>,
+}
+
+impl WholeKey {
+    fn new(bytes: Vec<u8>) -> WholeKey {
+        WholeKey { bytes, room: vec![1; 272_000 * SLOT] }
+    }
+
+    fn of(parts: Parts) -> WholeKey {
+        let mut bytes = vec![0; parts.byte_length()];
+        parts.write(&mut bytes).expect("a question");
+        WholeKey::new(bytes)
+    }
+
+    fn count(&mut self) -> usize {
+        (self.work::<Plain>() >> 16) as usize
+    }
+}
+
+impl Work for WholeKey {
+    fn work<I: Interface>(&mut self) -> u64 {
+        I::key(&self.bytes, &START, &mut self.room)
+    }
+}
+
+struct KeyInParts {
+    bytes: Vec<u8>,
+    room: Vec<u8>,
+}
+
+impl Work for KeyInParts {
+    fn work<I: Interface>(&mut self) -> u64 {
+        let mut after = START;
+        let mut count = 0;
+        loop {
+            let returned = I::key(&self.bytes, &after, &mut self.room);
+            let written = (returned >> 16) as usize;
+            count += written as u64;
+            if returned & 0xffff != 0x100 {
+                return count;
+            }
+            after.copy_from_slice(&self.room[(written - 1) * SLOT..written * SLOT]);
+        }
+    }
+}
+
+struct Plans;
+
+impl Work for Plans {
+    fn work<I: Interface>(&mut self) -> u64 {
+        let mut sum = 0;
+        for n in 0..=255 {
+            for b in 0..=255 {
+                sum += u64::from(I::plan(black_box(n), b));
+            }
+        }
+        sum
+    }
+}
+
+/// A situation and what is asked of it.
+struct Given {
+    n: u8,
+    b: u8,
+    si: [u8; 19],
+    code: u8,
+    argument: u8,
+    kind: u8,
+    of: u8,
+}
+
+impl Given {
+    /// How often all situations are gone through in one round.
+    const TIMES: usize = 4;
+}
+
+struct Situations<'a>(&'a [Given]);
+
+impl Work for Situations<'_> {
+    fn work<I: Interface>(&mut self) -> u64 {
+        let mut sum = 0;
+        for _ in 0..Given::TIMES {
+            for given in self.0 {
+                sum += u64::from(I::situation(given.n, given.b, &given.si));
+            }
+        }
+        sum
+    }
+}
+
+struct Events<'a>(&'a [Given]);
+
+impl Work for Events<'_> {
+    fn work<I: Interface>(&mut self) -> u64 {
+        let mut sum = 0;
+        for _ in 0..Given::TIMES {
+            for given in self.0 {
+                let mut si = given.si;
+                sum += u64::from(I::event(given.n, given.b, &mut si, given.code, given.argument));
+                sum += u64::from(si[1]) + u64::from(si[13]);
+            }
+        }
+        sum
+    }
+}
+
+/// Events that each go on from what the one before left.
+struct Walk {
+    n: u8,
+    b: u8,
+    events: Vec<[u8; 2]>,
+}
+
+impl Walk {
+    fn new(r: &mut Random) -> Walk {
+        let line = folvkin_compare::plain::Line::new(9, 4).expect("a plan");
+        let events = (0..16_384)
+            .map(|_| {
+                let event = generate::event(r, &line);
+                [event.code, event.argument]
+            })
+            .collect();
+        Walk { n: 9, b: 4, events }
+    }
+}
+
+impl Work for Walk {
+    fn work<I: Interface>(&mut self) -> u64 {
+        let mut si = Situation::FRESH.to_bytes();
+        let mut sum = 0;
+        for &[code, argument] in &self.events {
+            sum += u64::from(I::event(self.n, self.b, &mut si, code, argument));
+        }
+        sum
+    }
+}
+
+struct AllAspects<'a>(&'a [Given]);
+
+impl Work for AllAspects<'_> {
+    fn work<I: Interface>(&mut self) -> u64 {
+        let mut room = [0; 32];
+        let mut sum = 0;
+        for _ in 0..Given::TIMES {
+            for given in self.0 {
+                sum += u64::from(I::aspects(given.n, given.b, &given.si, &mut room));
+                sum += u64::from(room[1]) + u64::from(room[2 * usize::from(given.n) - 2]);
+            }
+        }
+        sum
+    }
+}
+
+struct Readings<'a>(&'a [Given]);
+
+impl Work for Readings<'_> {
+    fn work<I: Interface>(&mut self) -> u64 {
+        let mut sum = 0;
+        for _ in 0..Given::TIMES {
+            for given in self.0 {
+                sum += u64::from(I::reading(given.n, given.b, &given.si, given.kind, given.of));
+            }
+        }
+        sum
+    }
+}
+
+struct Questions<'a>(&'a [(Vec<u8>, [u8; SLOT])]);
+
+impl Work for Questions<'_> {
+    fn work<I: Interface>(&mut self) -> u64 {
+        let mut sum = 0;
+        for _ in 0..16 {
+            for (bytes, _) in self.0 {
+                sum += u64::from(I::question(bytes));
+            }
+        }
+        sum
+    }
+}
+
+struct Runs<'a>(&'a [(Vec<u8>, [u8; SLOT])]);
+
+impl Work for Runs<'_> {
+    fn work<I: Interface>(&mut self) -> u64 {
+        let mut sum = 0;
+        for _ in 0..16 {
+            for (bytes, slot) in self.0 {
+                sum += u64::from(I::run(bytes, slot));
+            }
+        }
+        sum
+    }
+}
+
+struct Marks<'a>(&'a [[u32; 6]]);
+
+impl Work for Marks<'_> {
+    fn work<I: Interface>(&mut self) -> u64 {
+        let mut room = [0; 13];
+        let mut sum = 0;
+        for _ in 0..4 {
+            for &[kind, amount, speed, tolerance, unit, pattern] in self.0 {
+                sum +=
+                    u64::from(I::mark(kind as u8, amount, speed, tolerance, unit as u8, pattern, &mut room));
+                sum += u64::from(room[8]) + u64::from(room[9]);
+            }
+        }
+        sum
+    }
+}

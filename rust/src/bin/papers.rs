@@ -1,0 +1,322 @@
+//! Papers and their keys, by the plain implementation alone:
+//!
+//!     papers key HEX            prints what the key program prints
+//!     papers show HEX           prints the question as a description
+//!     papers write DESCRIPTION  prints the question in hex
+//!     papers search SEED TRIES  looks for papers with large keys
+//!
+//! A description is made of parts with `;` between them (all but `plan` and
+//! `events` may be left out):
+//!
+//!     plan 4 2
+//!     situation link=1 orientation=1,2 annulment=0,0 exit=0,0 entry=0,0
+//!         pending=0 bilc=0 bslg=0 reminder=0 occupied=1+3 held=2+131
+//!     events sobb A, cobb B, exit A, special B, occupied 3, hold 131, lost, ..
+//!     readings signal 1 = 2, orientation A = 1, annulment B = 0, exit A = 1,
+//!         line = 0
+//!     length 4
+//!
+//! `situation` starts from the fresh one. A question that is not accepted is
+//! written too; its refusal goes to standard error.
+
+use std::fmt::Write as _;
+use std::io::Write as _;
+use std::process::ExitCode;
+
+use folvkin_compare::cases::{from_hex, hex};
+use folvkin_compare::generate;
+use folvkin_compare::plain::keytext::{key_text, whole_key};
+use folvkin_compare::plain::refusal::number;
+use folvkin_compare::plain::{Parts, Question, Situation};
+use folvkin_compare::random::Random;
+
+/// The names of the events, in the order of their codes from 1.
+const EVENTS: [&str; 22] = [
+    "sobb", "cobb", "afbli", "afble", "dafbl", "bilc", "dilc", "bslg", "unbslg", "hold", "unhold", "remind",
+    "unremind", "exit", "special", "unexit", "entry", "unentry", "occupied", "freed", "lost", "restored",
+];
+
+/// The names of the readings, in the order of their kinds from 1.
+const READINGS: [&str; 5] = ["signal", "orientation", "annulment", "exit", "line"];
+
+fn main() -> ExitCode {
+    let words: Vec<String> = std::env::args().skip(1).collect();
+    let words: Vec<&str> = words.iter().map(String::as_str).collect();
+    let result = match words[..] {
+        ["key", text] => from_hex(text).ok_or("no hex".into()).map(|bytes| say(&key_text(&bytes))),
+        ["show", text] => from_hex(text).ok_or("no hex".into()).and_then(|bytes| show(&bytes)),
+        ["write", ref parts @ ..] if !parts.is_empty() => write_description(&parts.join(" ")),
+        ["search", seed, tries] => match (seed.parse(), tries.parse()) {
+            (Ok(seed), Ok(tries)) => {
+                search(seed, tries);
+                Ok(())
+            }
+            _ => Err("seed and tries are numbers".into()),
+        },
+        _ => Err("usage: papers key HEX | show HEX | write DESCRIPTION | search SEED TRIES".into()),
+    };
+    match result {
+        Ok(()) => ExitCode::SUCCESS,
+        Err(sentence) => {
+            eprintln!("{sentence}");
+            ExitCode::from(2)
+        }
+    }
+}
+
+/// Prints a text; a reader that has closed its end is no error.
+fn say(text: &str) {
+    let _ = std::io::stdout().write_all(text.as_bytes());
+}
+
+fn number_of(text: &str) -> Result<u8, String> {
+    match text {
+        "A" => Ok(0),
+        "B" => Ok(1),
+        _ => text.parse().map_err(|_| format!("{text} is no number up to 255")),
+    }
+}
+
+fn write_description(text: &str) -> Result<(), String> {
+    let mut plan = None;
+    let mut situation = Situation::FRESH;
+    let mut events = Vec::new();
+    let mut readings = Vec::new();
+    let mut length = 0;
+    for part in text.split(';').map(str::trim).filter(|part| !part.is_empty()) {
+        let (name, rest) = part.split_once(' ').unwrap_or((part, ""));
+        match name {
+            "plan" => {
+                let numbers: Vec<u8> = rest.split_whitespace().map(number_of).collect::<Result<_, _>>()?;
+                let [n, b] = numbers[..] else { return Err("a plan has two numbers".into()) };
+                plan = Some((n, b));
+            }
+            "situation" => {
+                for field in rest.split_whitespace() {
+                    set_field(&mut situation, field)?;
+                }
+            }
+            "events" => {
+                for event in rest.split(',') {
+                    let mut words = event.split_whitespace();
+                    let name = words.next().unwrap_or("");
+                    let code = match EVENTS.iter().position(|&known| known == name) {
+                        Some(index) => index as u8 + 1,
+                        None => number_of(name)?,
+                    };
+                    events.push([code, words.next().map_or(Ok(0), number_of)?]);
+                }
+            }
+            "readings" => {
+                for reading in rest.split(',') {
+                    let (asked, value) = reading.split_once('=').ok_or("a reading has a value after =")?;
+                    let mut words = asked.split_whitespace();
+                    let name = words.next().unwrap_or("");
+                    let kind = match READINGS.iter().position(|&known| known == name) {
+                        Some(index) => index as u8 + 1,
+                        None => number_of(name)?,
+                    };
+                    readings.push([kind, words.next().map_or(Ok(0), number_of)?, number_of(value.trim())?]);
+                }
+            }
+            "length" => length = number_of(rest.trim())?,
+            _ => return Err(format!("{name} is no part of a description")),
+        }
+    }
+    let (sections, frontier) = plan.ok_or("a description has a plan")?;
+    let parts = Parts {
+        sections,
+        frontier,
+        situation: situation.to_bytes(),
+        events: &events,
+        readings: &readings,
+        length,
+    };
+    let mut bytes = vec![0; parts.byte_length()];
+    parts.write_unchecked(&mut bytes);
+    println!("{}", hex(&bytes));
+    let refusal = number(Question::read(&bytes));
+    if refusal != 0 {
+        eprintln!("refused {refusal}");
+    }
+    Ok(())
+}
+
+fn set_field(situation: &mut Situation, field: &str) -> Result<(), String> {
+    let (name, text) = field.split_once('=').ok_or(format!("{field} has no ="))?;
+    let one = || number_of(text);
+    let pair = || -> Result<[u8; 2], String> {
+        let (a, b) = text.split_once(',').ok_or(format!("{field} needs a value for A and one for B"))?;
+        Ok([number_of(a)?, number_of(b)?])
+    };
+    let bit = |section: u8| {
+        if (1..=16).contains(&section) {
+            Ok(1 << (section - 1))
+        } else {
+            Err(format!("{section} is no section"))
+        }
+    };
+    match name {
+        "link" => situation.link = one()?,
+        "orientation" => situation.orientation = pair()?,
+        "annulment" => situation.annulment = pair()?,
+        "exit" => situation.exit = pair()?,
+        "entry" => situation.entry = pair()?,
+        "pending" => situation.pending = one()?,
+        "bilc" => situation.bilc = one()?,
+        "bslg" => situation.bslg = one()?,
+        "reminder" => situation.reminder = one()?,
+        "occupied" => {
+            for section in text.split('+') {
+                situation.occupied |= bit(number_of(section)?)?;
+            }
+        }
+        "held" => {
+            for signal in text.split('+') {
+                let signal = number_of(signal)?;
+                if signal < 128 {
+                    situation.held_towards_b |= bit(signal)?;
+                } else {
+                    situation.held_towards_a |= bit(signal - 128)?;
+                }
+            }
+        }
+        _ => return Err(format!("{name} is no field of a situation")),
+    }
+    Ok(())
+}
+
+fn show(bytes: &[u8]) -> Result<(), String> {
+    let parts = Parts::split(bytes).map_err(|refusal| format!("refused {}", refusal as u8))?;
+    println!("{}", description(&parts));
+    let refusal = number(parts.accept());
+    if refusal != 0 {
+        println!("refused {refusal}");
+    }
+    Ok(())
+}
+
+fn description(parts: &Parts) -> String {
+    let station = |argument: u8| match argument {
+        0 => "A".to_string(),
+        1 => "B".to_string(),
+        other => other.to_string(),
+    };
+    let members =
+        |set: u16, added: u8| (1..=16).filter(move |k| set >> (k - 1) & 1 == 1).map(move |k| k + added);
+    let sum = |members: Vec<u8>| members.iter().map(u8::to_string).collect::<Vec<_>>().join("+");
+    let mut text =
+        format!("plan {} {}; situation link={}", parts.sections, parts.frontier, parts.situation[0]);
+    let s = Situation::from_bytes(&parts.situation);
+    for (name, [a, b]) in
+        [("orientation", s.orientation), ("annulment", s.annulment), ("exit", s.exit), ("entry", s.entry)]
+    {
+        if [a, b] != [0, 0] {
+            let _ = write!(text, " {name}={a},{b}");
+        }
+    }
+    for (name, value) in
+        [("pending", s.pending), ("bilc", s.bilc), ("bslg", s.bslg), ("reminder", s.reminder)]
+    {
+        if value != 0 {
+            let _ = write!(text, " {name}={value}");
+        }
+    }
+    if s.occupied != 0 {
+        let _ = write!(text, " occupied={}", sum(members(s.occupied, 0).collect()));
+    }
+    if s.held_towards_b | s.held_towards_a != 0 {
+        let held = members(s.held_towards_b, 0).chain(members(s.held_towards_a, 128)).collect();
+        let _ = write!(text, " held={}", sum(held));
+    }
+    for (index, &[code, argument]) in parts.events.iter().enumerate() {
+        let name =
+            EVENTS.get(usize::from(code).wrapping_sub(1)).map_or(code.to_string(), |name| name.to_string());
+        let argument = match code {
+            10 | 11 | 19 | 20 => argument.to_string(),
+            21 | 22 if argument == 0 => String::new(),
+            _ => station(argument),
+        };
+        let before = if index == 0 { "; events " } else { ", " };
+        let _ = write!(text, "{before}{}", format!("{name} {argument}").trim_end());
+    }
+    for (index, &[kind, argument, value]) in parts.readings.iter().enumerate() {
+        let name =
+            READINGS.get(usize::from(kind).wrapping_sub(1)).map_or(kind.to_string(), |name| name.to_string());
+        let argument = match kind {
+            2..=4 => station(argument),
+            5 if argument == 0 => String::new(),
+            _ => argument.to_string(),
+        };
+        let before = if index == 0 { "; readings " } else { ", " };
+        let _ = write!(text, "{before}{} = {value}", format!("{name} {argument}").trim_end());
+    }
+    let _ = write!(text, "; length {}", parts.length);
+    text
+}
+
+/// Climbs to papers with large keys: changes one event or the situation at a
+/// time and keeps what gives more answers. Then asks readings of the best one,
+/// to find smaller keys of it.
+fn search(seed: u64, tries: u64) {
+    let mut r = Random::new(seed);
+    let line = generate::line(&mut r);
+    let mut start = generate::sound_or_reached(&mut r, &line);
+    let mut events: Vec<[u8; 2]> = Vec::new();
+    let other_event = |r: &mut Random, events: &[[u8; 2]]| loop {
+        let event = generate::event(r, &line);
+        if !events.contains(&[event.code, event.argument]) {
+            break [event.code, event.argument];
+        }
+    };
+    while events.len() < 12 {
+        events.push(other_event(&mut r, &events));
+    }
+    let paper = |start: &Situation, events: &[[u8; 2]], readings: &[[u8; 3]], length: u8| {
+        Parts {
+            sections: line.sections(),
+            frontier: line.frontier(),
+            situation: start.to_bytes(),
+            events,
+            readings,
+            length,
+        }
+        .accept()
+        .expect("a paper in range")
+    };
+    let size = |question: &Question| whole_key(question).len() / 6;
+    let mut best = size(&paper(&start, &events, &[], 4));
+    for _ in 0..tries {
+        let (before, before_start) = (events.clone(), start);
+        if r.once_in(4) {
+            start = generate::sound_or_reached(&mut r, &line);
+        }
+        for _ in 0..r.from(1, 2) {
+            let place = r.index(12);
+            events[place] = other_event(&mut r, &events);
+        }
+        let found = size(&paper(&start, &events, &[], 4));
+        if found >= best {
+            best = found;
+        } else {
+            (events, start) = (before, before_start);
+        }
+    }
+    let print = |question: &Question| {
+        let bytes = generate::question_bytes(question);
+        let parts = Parts::split(&bytes).expect("a question");
+        say(&format!("{} sequences: {}\n{}\n", size(question), description(&parts), hex(&bytes)));
+    };
+    print(&paper(&start, &events, &[], 5));
+    let mut readings = Vec::new();
+    let mut there = start;
+    for _ in 0..40 {
+        let [code, argument] = r.pick(&events);
+        let _ = there.apply(&line, folvkin_compare::plain::Event { code, argument });
+    }
+    for _ in 0..4 {
+        let shown = generate::shown(&mut r, &line, &there);
+        readings.push([shown.kind, shown.argument, shown.value]);
+        print(&paper(&start, &events, &readings, 5));
+    }
+}

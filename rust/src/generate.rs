@@ -1,0 +1,542 @@
+//! Generated inputs: plans, situations, events, questions, slots and typed
+//! numbers, right ones and damaged ones.
+
+use crate::plain::key::{SLOT, START};
+use crate::plain::situation::{IN, LENGTH, NONE, OUT};
+use crate::plain::{Event, Line, Parts, Question, Reading, Situation, events, readings};
+use crate::random::Random;
+
+/// A plan, with the least and greatest ones more often.
+pub fn line(r: &mut Random) -> Line {
+    let n = match r.below(4) {
+        0 => r.pick(&[2, 3, 16]),
+        1 => r.from(2, 6),
+        _ => r.from(2, 16),
+    };
+    let b = match r.below(4) {
+        0 => r.pick(&[1, n - 1]),
+        _ => r.from(1, n - 1),
+    };
+    Line::new(n as u8, b as u8).expect("a plan")
+}
+
+/// A set with few, some or many members.
+fn set(r: &mut Random, within: u16) -> u16 {
+    let bits = r.word();
+    let (first, second, third) = (bits as u16, (bits >> 16) as u16, (bits >> 32) as u16);
+    within
+        & match r.below(4) {
+            0 => 0,
+            1 => first & second & third,
+            2 => first & second,
+            _ => first | second,
+        }
+}
+
+fn stations(r: &mut Random) -> u8 {
+    if r.once_in(2) { 0 } else { r.below(4) as u8 }
+}
+
+/// Fields in range, most of them as soundness has them.
+fn in_range(r: &mut Random, line: &Line) -> Situation {
+    let link = u8::from(!r.once_in(4));
+    let orientation = match r.below(8) {
+        0..3 => [NONE, NONE],
+        3 | 4 => [OUT, IN],
+        5 | 6 => [IN, OUT],
+        _ => [r.below(3) as u8, r.below(3) as u8],
+    };
+    let mut annulment = [0; 2];
+    let mut exit = [0; 2];
+    for station in 0..2 {
+        if orientation[station] == NONE && r.once_in(2) || r.once_in(16) {
+            annulment[station] = r.below(3) as u8;
+        }
+        if orientation[station] != IN && r.once_in(3) || r.once_in(16) {
+            exit[station] = r.below(3) as u8;
+        }
+    }
+    let all = line.all();
+    Situation {
+        link,
+        orientation,
+        annulment,
+        exit,
+        entry: [r.below(2) as u8, r.below(2) as u8],
+        pending: if r.once_in(3) { r.below(3) as u8 } else { 0 },
+        bilc: stations(r),
+        bslg: stations(r),
+        reminder: stations(r),
+        occupied: set(r, all),
+        held_towards_b: if r.once_in(2) { 0 } else { set(r, all & !1) },
+        held_towards_a: if r.once_in(2) { 0 } else { set(r, all & !line.last()) },
+    }
+}
+
+pub fn sound(r: &mut Random, line: &Line) -> Situation {
+    for _ in 0..64 {
+        let situation = in_range(r, line);
+        if situation.is_sound(line) {
+            return situation;
+        }
+    }
+    Situation::FRESH
+}
+
+/// A situation that accepted events lead to, from the fresh one or a sound
+/// one.
+pub fn reached(r: &mut Random, line: &Line) -> Situation {
+    let mut situation = if r.once_in(2) { Situation::FRESH } else { sound(r, line) };
+    for _ in 0..r.below(24) {
+        let _ = situation.apply(line, event(r, line));
+    }
+    situation
+}
+
+/// A sound situation, one way or the other.
+pub fn sound_or_reached(r: &mut Random, line: &Line) -> Situation {
+    if r.once_in(2) { sound(r, line) } else { reached(r, line) }
+}
+
+/// A situation's bytes: sound, in range, changed in some bytes, any bytes.
+pub fn situation_bytes(r: &mut Random, line: &Line) -> [u8; LENGTH] {
+    match r.below(8) {
+        0..3 => sound_or_reached(r, line).to_bytes(),
+        3 | 4 => in_range(r, line).to_bytes(),
+        5 | 6 => {
+            let mut bytes = sound_or_reached(r, line).to_bytes();
+            for _ in 0..r.from(1, 3) {
+                let at = r.index(LENGTH);
+                bytes[at] = changed_byte(r, bytes[at]);
+            }
+            bytes
+        }
+        _ => {
+            let mut bytes = [0; LENGTH];
+            for byte in &mut bytes {
+                *byte = if r.once_in(8) { r.byte() } else { r.below(4) as u8 };
+            }
+            bytes
+        }
+    }
+}
+
+/// Another value for a byte: a small one, a neighbour, one bit, any.
+pub fn changed_byte(r: &mut Random, byte: u8) -> u8 {
+    match r.below(4) {
+        0 => r.below(5) as u8,
+        1 => byte.wrapping_add(r.pick(&[1, 255])),
+        2 => byte ^ 1 << r.below(8),
+        _ => r.byte(),
+    }
+}
+
+fn section(r: &mut Random, line: &Line) -> u8 {
+    match r.below(4) {
+        0 => r.pick(&[1, line.frontier(), line.frontier() + 1, line.sections()]),
+        _ => r.from(1, line.sections().into()) as u8,
+    }
+}
+
+/// Any signal of the line.
+pub fn signal(r: &mut Random, line: &Line) -> u8 {
+    section(r, line) + r.pick(&[0, 128])
+}
+
+/// An event in range. Those that only turn one thing on and off come less
+/// often.
+pub fn event(r: &mut Random, line: &Line) -> Event {
+    let code = match r.below(4) {
+        0 => r.from(1, 22) as u8,
+        1 => r.pick(&[events::SOBB, events::COBB, events::SOBB, events::COBB, events::DAFBL]),
+        2 => r.pick(&[events::AFBLI_ORDER, events::AFBLE_ORDER, events::LINK_LOST, events::LINK_RESTORED]),
+        _ => r.from(events::EXIT_NORMAL.into(), events::FREED.into()) as u8,
+    };
+    let argument = match code {
+        events::BSLB | events::BSLB_RELEASE => loop {
+            let signal = signal(r, line);
+            if line.is_block_signal(signal) {
+                break signal;
+            }
+        },
+        events::OCCUPIED | events::FREED => section(r, line),
+        events::LINK_LOST | events::LINK_RESTORED => 0,
+        _ => r.below(2) as u8,
+    };
+    Event { code, argument }
+}
+
+/// An event's two bytes, in range or not.
+pub fn event_bytes(r: &mut Random, line: &Line) -> [u8; 2] {
+    let Event { code, argument } = event(r, line);
+    match r.below(8) {
+        0 => [code, changed_byte(r, argument)],
+        1 => [r.from(0, 24) as u8, argument],
+        2 if r.once_in(2) => [r.byte(), r.byte()],
+        _ => [code, argument],
+    }
+}
+
+/// A reading's kind and argument, in range.
+fn reading(r: &mut Random, line: &Line) -> (u8, u8) {
+    match r.below(5) {
+        0 | 1 => (readings::ASPECT, signal(r, line)),
+        2 => (readings::LINE, 0),
+        _ => (r.from(2, 4) as u8, r.below(2) as u8),
+    }
+}
+
+/// The kind and argument of a reading, in range or not.
+pub fn reading_bytes(r: &mut Random, line: &Line) -> (u8, u8) {
+    let (kind, argument) = reading(r, line);
+    match r.below(8) {
+        0 => (kind, changed_byte(r, argument)),
+        1 => (r.below(8) as u8, argument),
+        2 if r.once_in(2) => (r.byte(), r.byte()),
+        _ => (kind, argument),
+    }
+}
+
+/// How much of a search a question may ask for: the number of sequences that
+/// its count of events and its length allow.
+#[derive(Clone, Copy)]
+pub enum Search {
+    Small,
+    Any,
+}
+
+/// An accepted question. Its readings mostly hold somewhere in its key.
+pub fn question(r: &mut Random, search: Search) -> Question {
+    let line = line(r);
+    let start = match r.below(4) {
+        0 => Situation::FRESH,
+        1 => reached(r, &line),
+        _ => sound(r, &line),
+    };
+    let count = if r.once_in(3) { 12 } else { r.from(1, 12) as usize };
+    let mut length = r.below(6) as u8;
+    if let Search::Small = search {
+        while length > 0 && count.pow(length.into()) > 2_000 {
+            length -= 1;
+        }
+    }
+    let mut listed: Vec<[u8; 2]> = Vec::with_capacity(count);
+    while listed.len() < count {
+        let Event { code, argument } = event(r, &line);
+        if !listed.contains(&[code, argument]) {
+            listed.push([code, argument]);
+        }
+    }
+    let mut there = start;
+    for _ in 0..r.below(u64::from(length) + 1) {
+        let [code, argument] = r.pick(&listed);
+        let _ = there.apply(&line, Event { code, argument });
+    }
+    let reading_count = if r.once_in(3) { 0 } else { r.below(7) as usize };
+    let mut asked = Vec::with_capacity(reading_count);
+    for _ in 0..reading_count {
+        let (kind, argument) = reading(r, &line);
+        let value = if r.once_in(12) {
+            r.below(if kind == readings::LINE { 2 } else { 3 }) as u8
+        } else {
+            readings::value(&line, &there, kind, argument)
+        };
+        asked.push([kind, argument, value]);
+    }
+    Parts {
+        sections: line.sections(),
+        frontier: line.frontier(),
+        situation: start.to_bytes(),
+        events: &listed,
+        readings: &asked,
+        length,
+    }
+    .accept()
+    .expect("a question in range")
+}
+
+/// The bytes of a question.
+pub fn question_bytes(question: &Question) -> Vec<u8> {
+    let mut bytes = vec![0; 128];
+    let length = question.write(&mut bytes).expect("room");
+    bytes.truncate(length);
+    bytes
+}
+
+/// Where each record of a question starts, and the end.
+fn records(question: &Question) -> [usize; 6] {
+    let events = 25 + 3 + 2 * question.events().len();
+    let readings = events + 3 + 3 * question.readings().len();
+    [0, 4, 25, events, readings, readings + 3]
+}
+
+/// The bytes of a question, damaged in one or two of many ways.
+pub fn damaged(r: &mut Random, question: &Question) -> Vec<u8> {
+    let mut bytes = question_bytes(question);
+    let at = records(question);
+    let count = question.events().len();
+    match r.below(12) {
+        0 => {
+            for _ in 0..r.from(1, 3) {
+                let at = r.index(bytes.len());
+                bytes[at] = changed_byte(r, bytes[at]);
+            }
+        }
+        1 => bytes.truncate(r.index(bytes.len())),
+        2 => {
+            for _ in 0..r.from(1, 9) {
+                bytes.push(r.byte());
+            }
+        }
+        // A byte too many or too few somewhere within.
+        3 => bytes.insert(r.index(at[5]), r.byte()),
+        4 => {
+            bytes.remove(r.index(at[5]));
+        }
+        // A count that does not fit, or one out of range with items to match.
+        5 => {
+            let place = r.pick(&[at[2] + 2, at[3] + 2]);
+            bytes[place] = changed_byte(r, bytes[place]);
+        }
+        6 => {
+            let more = r.from(1, 10) as usize;
+            let item = &bytes[at[2] + 3..at[2] + 5].to_vec();
+            bytes[at[2] + 2] += more as u8;
+            for _ in 0..more {
+                bytes.splice(at[3]..at[3], item.iter().copied());
+            }
+        }
+        7 => {
+            let more = r.from(1, 7) as usize;
+            bytes[at[3] + 2] += more as u8;
+            for _ in 0..more {
+                bytes.splice(at[4]..at[4], [5, 0, r.below(3) as u8]);
+            }
+        }
+        // An event listed twice.
+        8 if count > 1 => {
+            let from = at[2] + 3 + 2 * r.index(count);
+            let to = at[2] + 3 + 2 * r.index(count);
+            bytes.copy_within(from..from + 2, to);
+        }
+        // Two records in each other's place.
+        9 => {
+            let first = r.index(4);
+            let second = r.from(first as u64 + 1, 4) as usize;
+            let mut order = [0, 1, 2, 3, 4];
+            order.swap(first, second);
+            bytes = order.iter().flat_map(|&k| bytes[at[k]..at[k + 1]].to_vec()).collect();
+        }
+        // A plan, a situation, events and readings that do not belong
+        // together.
+        10 => {
+            let line = line(r);
+            if r.once_in(2) {
+                bytes[2] = line.sections();
+                bytes[3] = line.frontier();
+            }
+            if r.once_in(2) {
+                bytes[6..25].copy_from_slice(&situation_bytes(r, &line));
+            }
+            let place = at[2] + 3 + 2 * r.index(count);
+            bytes[place..place + 2].copy_from_slice(&event_bytes(r, &line));
+            if r.once_in(2) {
+                bytes[at[4] + 2] = r.from(0, 8) as u8;
+            }
+        }
+        _ => {
+            let readings = question.readings().len();
+            if readings > 0 {
+                let place = at[3] + 3 + 3 * r.index(readings);
+                let (kind, argument) = reading_bytes(r, question.line());
+                bytes[place..place + 3].copy_from_slice(&[kind, argument, r.below(5) as u8]);
+            } else {
+                bytes[at[4] + 2] = r.byte();
+            }
+        }
+    }
+    bytes
+}
+
+/// A slot within the question: any sequence of its places, one that runs, or
+/// one of the answers given.
+pub fn slot(r: &mut Random, question: &Question, answers: &[u8]) -> [u8; SLOT] {
+    let (answers, _) = answers.as_chunks::<SLOT>();
+    if !answers.is_empty() && r.once_in(2) {
+        return r.pick(answers);
+    }
+    let mut slot = [0; SLOT];
+    let length = r.below(question.length() as u64 + 1) as usize;
+    let count = question.events().len() as u64;
+    slot[0] = length as u8;
+    let mut situation = *question.situation();
+    let runs = !r.once_in(4);
+    for place in &mut slot[1..=length] {
+        *place = r.from(1, count) as u8;
+        // A few tries for an event that is accepted.
+        for _ in 0..if runs { 8 } else { 0 } {
+            let event = question.events()[usize::from(*place - 1)];
+            if situation.apply(question.line(), event).is_ok() {
+                break;
+            }
+            *place = r.from(1, count) as u8;
+        }
+    }
+    slot
+}
+
+/// Bytes that are meant as a slot: within the question, the start, malformed,
+/// of another length.
+pub fn slot_bytes(r: &mut Random, question: &Question, answers: &[u8]) -> Vec<u8> {
+    let mut slot = slot(r, question, answers);
+    match r.below(10) {
+        0..5 => slot.to_vec(),
+        5 => START.to_vec(),
+        6 => {
+            for _ in 0..r.from(1, 2) {
+                let at = r.index(SLOT);
+                slot[at] = match r.below(4) {
+                    0 => 0,
+                    1 => question.events().len() as u8 + r.below(2) as u8,
+                    _ => changed_byte(r, slot[at]),
+                };
+            }
+            slot.to_vec()
+        }
+        7 => {
+            slot[0] = r.pick(&[question.length() as u8, question.length() as u8 + 1, 5, 6, 254, 255]);
+            slot.to_vec()
+        }
+        8 => {
+            let mut start = START;
+            start[r.index(SLOT)] = r.byte();
+            start.to_vec()
+        }
+        _ => {
+            let mut bytes = slot.to_vec();
+            bytes.resize(r.below(13) as usize, 0);
+            if r.once_in(2) {
+                r.fill(&mut bytes);
+            }
+            bytes
+        }
+    }
+}
+
+/// The exact answer of a numeric question as a fraction.
+fn exact(kind: u32, amount: u32, speed: u32) -> (u64, u64) {
+    let (amount, speed) = (u64::from(amount), u64::from(speed));
+    if kind == 1 { (18 * amount, 5 * speed) } else { (5 * speed * amount, 18) }
+}
+
+/// A number of a range, with its borders more often.
+fn bordered(r: &mut Random, first: u32, last: u32) -> u32 {
+    match r.below(8) {
+        0 => first,
+        1 => last,
+        2 => r.from(first.into(), u64::from(last).min(u64::from(first) + 40)) as u32,
+        _ => r.from(first.into(), last.into()) as u32,
+    }
+}
+
+/// A numeric question and a typed answer: kind, amount, speed, tolerance,
+/// unit, pattern.
+pub fn typed(r: &mut Random) -> [u32; 6] {
+    let mut kind = r.from(1, 2) as u32;
+    let mut amount = bordered(r, 1, if kind == 1 { 20_000 } else { 10_000 });
+    let mut speed = bordered(r, 1, 200);
+    let mut tolerance = match r.below(4) {
+        0 => r.pick(&[0, 1, 31, 32, 33, 50]),
+        _ => bordered(r, 0, 10_000),
+    };
+    if r.once_in(12) {
+        // An exact answer of so many whole thousandths, and these as
+        // tolerance: zero is just right.
+        for _ in 0..40 {
+            let (a, s) = (r.from(1, 60) as u32, r.from(1, 200) as u32);
+            let (above, below) = exact(kind, a, s);
+            if 1000 * above % below == 0 && 1000 * above / below <= 10_000 {
+                (amount, speed, tolerance) = (a, s, (1000 * above / below) as u32);
+                break;
+            }
+        }
+    }
+    let mut unit = if r.once_in(12) { r.below(3) as u32 } else { kind };
+    let pattern = typed_pattern(r, kind, amount, speed, tolerance);
+    match r.below(40) {
+        0 => kind = r.pick(&[0, 3, 255, 4]),
+        1 => amount = r.pick(&[0, 10_001, 20_001, 20_000, u32::MAX, 1 << 31]),
+        2 => speed = r.pick(&[0, 201, 256, 257, u32::MAX]),
+        3 => tolerance = r.pick(&[10_001, 10_000, 65_536, u32::MAX]),
+        4 => unit = r.from(0, 255) as u32,
+        5 => amount = r.word() as u32,
+        _ => {}
+    }
+    [kind, amount, speed, tolerance, unit, pattern]
+}
+
+fn typed_pattern(r: &mut Random, kind: u32, amount: u32, speed: u32, tolerance: u32) -> u32 {
+    let (above, below) = exact(kind, amount, speed);
+    let exact = above as f64 / below as f64;
+    // A float near a value, some steps away.
+    let near = |r: &mut Random, value: f64| {
+        let steps = r.below(9) as i32 - 4;
+        ((value as f32).to_bits() as i32).wrapping_add(steps) as u32
+    };
+    let tolerance = f64::from(tolerance) / 1000.0;
+    match r.below(12) {
+        0 => near(r, exact + tolerance),
+        1 => near(r, exact - tolerance),
+        2 => near(r, exact),
+        // Near a whole number of thousandths away.
+        3 => {
+            let thousandths = r.below(20_001) as f64 - 10_000.0;
+            near(r, exact + thousandths / 1000.0)
+        }
+        // Near where the error is held.
+        4 => {
+            let held = r.pick(&[1000.0, -1000.0]);
+            near(r, exact + held)
+        }
+        5 => {
+            let millionths = r.below(2001) as f64 - 1000.0;
+            near(r, exact * (1.0 + millionths / 1e6))
+        }
+        // Zeros, subnormals and the least numbers, of both signs.
+        6 => {
+            let sign = (r.below(2) as u32) << 31;
+            let size = match r.below(6) {
+                0 => 0,
+                1 => r.below(4) as u32,
+                2 => r.below(1 << 23) as u32,
+                3 => (1 << 23) - 2 + r.below(4) as u32,
+                // Around the numbers where the exponent is small.
+                4 => (r.from(1, 120) as u32) << 23 | r.word() as u32 & 0x7f_ffff,
+                _ => (r.from(60, 130) as u32) << 23,
+            };
+            sign | size
+        }
+        // Infinities and what is no number, with all payloads, and the
+        // greatest numbers.
+        7 => {
+            let sign = (r.below(2) as u32) << 31;
+            let any = r.word() as u32 & 0x7f_ffff;
+            let payload = r.pick(&[0, 1, 1 << 22, 1 << 22 | 1, 0x7f_ffff, any, any]);
+            sign | r.pick(&[255, 255, 254]) << 23 | payload
+        }
+        // 2^23 and around it, where floats become whole numbers.
+        8 => {
+            let sign = (r.below(2) as u32) << 31;
+            sign | (r.from(140, 160) as u32) << 23 | r.word() as u32 & 0x7f_ffff
+        }
+        9 => (r.below(4_000_000) as f32 / 4.0 - 200_000.0).to_bits(),
+        10 => (r.below(1_000_000) as f32 / 1000.0).to_bits(),
+        _ => r.word() as u32,
+    }
+}
+
+/// A reading of what a situation shows.
+pub fn shown(r: &mut Random, line: &Line, situation: &Situation) -> Reading {
+    let (kind, argument) = reading(r, line);
+    Reading { kind, argument, value: readings::value(line, situation, kind, argument) }
+}

@@ -1,0 +1,21 @@
+//! Document 01 in plain Rust ([`plain`]), the proved library behind a safe
+//! wrapper (`ffi`, or `bridge` on a processor that the library is not compiled
+//! for), and what the programs of this package share: cases as text
+//! ([`cases`]), generated cases ([`generate`]), lent memory with guards
+//! ([`lent`]).
+
+#[cfg(bridged)]
+pub mod bridge;
+pub mod cases;
+#[cfg(linked)]
+pub mod ffi;
+pub mod generate;
+pub mod interface;
+pub mod lent;
+pub mod plain;
+pub mod random;
+
+#[cfg(bridged)]
+pub use bridge::Library;
+#[cfg(linked)]
+pub use ffi::Library;

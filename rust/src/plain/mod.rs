@@ -1,0 +1,23 @@
+//! Document 01, written from the document alone. Codes are bytes, sets of
+//! sections are `u16` with bit k-1 for section k, nothing allocates except
+//! the key's text.
+
+pub mod aspects;
+pub mod events;
+pub mod key;
+pub mod keytext;
+pub mod line;
+pub mod marking;
+pub mod question;
+pub mod readings;
+pub mod refusal;
+pub mod run;
+pub mod situation;
+
+pub use aspects::Aspects;
+pub use events::Event;
+pub use line::Line;
+pub use question::{Parts, Question};
+pub use readings::Reading;
+pub use refusal::Refusal;
+pub use situation::Situation;
