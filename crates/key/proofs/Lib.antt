@@ -1,4 +1,3 @@
 pub mod OneCall
-pub mod FewAnswers
 pub mod SixBytes
 pub mod Steps

@@ -22,7 +22,7 @@ use Rattle.keys.proofs.Accepted.{bounded}
 use Rattle.keys.proofs.KeyOfAQuestion.{call-gives-part, last-slot-continues}
 use Rattle.key.specs.Ending.{ending}
 use Rattle.key.proofs.OneCall.{count-fits, count-left, some-written, last-count, goes-on}
-use Rattle.key.proofs.FewAnswers.{key-few}
+use Rattle.keylaws.proofs.KeyIsBounded.{key-few}
 
 abbrev pub asked : List ℕ → Question
 asked bytes = readOf bytes .question
@@ -88,11 +88,11 @@ module _ {bytes after room now : List ℕ} {total : ℕ} {r : Fetched} (turn : T
         let q = asked bytes in
         omega (arith, ap (λ (p : Part). p .count) part, count-fits (rules q) (q .length) (q .situation) (bounds .2) after room (turn .six))
 
-    pub sum-fits : total + r .count ≤ 371293
+    pub sum-fits : total + r .count ≤ 271453
     unfolding call left
     sum-fits =
         let q = asked bytes in
-        omega (arith, turn .stands .counted, ap (λ (p : Part). p .count) part, count-left (rules q) (q .length) (q .situation) (bounds .2) after room (turn .six), key-few (rules q) (few-events q bounds) (q .length) (bounds .2) (q .situation))
+        omega (arith, turn .stands .counted, ap (λ (p : Part). p .count) part, count-left (rules q) (q .length) (q .situation) (bounds .2) after room (turn .six), key-few (rules q) (q .length) (q .situation) (few-events q bounds) (bounds .2))
 
     pub last-ending : r .more ≡ false → record { refusal = 0; total = total + r .count } ≡ ending (readOf bytes)
     unfolding call left

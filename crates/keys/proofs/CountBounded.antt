@@ -1,15 +1,13 @@
 -- A call gives at most 271,453 slots: the words of up to five of twelve places. Assumes nothing.
-use Prim.Native.Nat.{ℕ, zero, suc, _+_, _*_, _/_, _≤_}
-use mathlib.Core.Path.{_≡_}
+use Prim.Native.Nat.{ℕ, _*_, _≤_}
 use mathlib.Core.List.{List}
-use native.Mathlib.Nat.{le-trans}
 use native.Mathlib.Omega.{arith}
 use lib.Dec.{T, eqb, leb, eqb→eq}
 use lib.ListN.{length, take, length-take}
 use Rattle.sections.proofs.Tests.{if-case}
 use Rattle.keylaws.specs.Continuation.{isContinuation}
 use Rattle.keylaws.specs.Parts.{partAfter}
-use Rattle.keylaws.proofs.KeyIsBounded.{most, most-rises, part-is-bounded}
+use Rattle.keylaws.proofs.KeyIsBounded.{part-few as few}
 use Rattle.paper.specs.Read.{readOf}
 use Rattle.paper.specs.declared.question.Question.{Question}
 use Rattle.keys.specs.Key.{rules, Bounded}
@@ -18,16 +16,6 @@ use Rattle.keys.proofs.Accepted.{bounded}
 
 abbrev Few : Fetch → Type 0
 Few f = f .part .count ≤ 271453
-
-most-of-five : (limit : ℕ) → limit ≤ 5 → most 12 limit ≤ 271453
-unfolding most
-most-of-five zero h = omega arith
-most-of-five (suc zero) h = omega arith
-most-of-five (suc (suc zero)) h = omega arith
-most-of-five (suc (suc (suc zero))) h = omega arith
-most-of-five (suc (suc (suc (suc zero)))) h = omega arith
-most-of-five (suc (suc (suc (suc (suc zero))))) h = omega arith
-most-of-five (suc (suc (suc (suc (suc (suc limit)))))) h = absurd (omega arith)
 
 module _ (q : Question) (b : Bounded q) (after room : List ℕ) where
   at-most-twelve : rules q .events ≤ 12
@@ -39,9 +27,7 @@ module _ (q : Question) (b : Bounded q) (after room : List ℕ) where
       if-case Few (isContinuation (rules q .events) (q .length) after) _ (nothing 22 room)
       (λ t.
       if-case Few (leb 6 (length room)) (given (partAfter (rules q) (q .length) (q .situation) after room)) (nothing 24 room)
-      (λ u.
-      le-trans (part-is-bounded (rules q) (q .length) (q .situation) after room)
-      (le-trans (most-rises (rules q .events) 12 (q .length) at-most-twelve) (most-of-five (q .length) (b .2))))
+      (λ u. few (rules q) (q .length) (q .situation) at-most-twelve (b .2) after room)
       (λ u. omega arith))
       (λ t. omega arith)
 
