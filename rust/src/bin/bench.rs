@@ -1,6 +1,6 @@
 //! Measures the library against the plain implementation:
 //!
-//!     bench [--rounds R]
+//!     bench [--rounds R | --instructions FILE]
 //!
 //! Both run in the same process on the same inputs, by turns; the best of R
 //! rounds counts. A ratio is the library's time over the plain one's: below
@@ -9,10 +9,15 @@
 //! Rooms are filled with bytes once before the measurement and never cleared
 //! in between. Both give the same answers, or the program stops.
 //!
+//! With `--instructions` executed instructions are counted instead, once: FILE
+//! is where emulated/count.c keeps their count, under an emulator.
+//!
 //! Where the library is not linked (see build.rs) only the plain
 //! implementation is measured: a time under an emulator says nothing.
 
+use std::fs::File;
 use std::hint::black_box;
+use std::io::{Read, Seek, SeekFrom};
 use std::process::ExitCode;
 use std::time::Instant;
 
@@ -39,21 +44,31 @@ trait Work {
 fn main() -> ExitCode {
     let words: Vec<String> = std::env::args().skip(1).collect();
     let words: Vec<&str> = words.iter().map(String::as_str).collect();
-    let rounds = match words[..] {
-        [] => 15,
+    let (rounds, meter) = match words[..] {
+        [] => (15, Meter::Clock(Instant::now())),
         ["--rounds", number] => match number.parse() {
-            Ok(rounds) if rounds > 0 => rounds,
+            Ok(rounds) if rounds > 0 => (rounds, Meter::Clock(Instant::now())),
             _ => return usage(),
+        },
+        ["--instructions", file] => match File::open(file) {
+            Ok(file) => (1, Meter::Count(file)),
+            Err(error) => {
+                eprintln!("{file}: {error}");
+                return ExitCode::FAILURE;
+            }
         },
         _ => return usage(),
     };
-    let bench = Bench { rounds };
+    let bench = Bench { rounds, meter };
     if !cfg!(linked) {
         println!(
             "The library is not linked, so that there are no ratios: only the plain implementation is measured."
         );
     }
-    println!("Best of {rounds} rounds.\n");
+    match bench.meter {
+        Meter::Clock(_) => println!("Best of {rounds} rounds.\n"),
+        Meter::Count(_) => println!("Executed instructions.\n"),
+    }
     bench.keys();
     bench.calls();
     bench.growth();
@@ -61,67 +76,109 @@ fn main() -> ExitCode {
 }
 
 fn usage() -> ExitCode {
-    eprintln!("usage: bench [--rounds R]");
+    eprintln!("usage: bench [--rounds R | --instructions FILE]");
     ExitCode::from(2)
+}
+
+/// What is read before and after a work.
+enum Meter {
+    /// Nanoseconds since then.
+    Clock(Instant),
+    /// Executed instructions, as the file has them.
+    Count(File),
+}
+
+impl Meter {
+    fn read(&self) -> f64 {
+        match self {
+            Meter::Clock(started) => started.elapsed().as_secs_f64() * 1e9,
+            Meter::Count(file) => {
+                let (mut file, mut bytes) = (file, [0; 8]);
+                file.seek(SeekFrom::Start(0)).expect("the file of the count");
+                file.read_exact(&mut bytes).expect("8 bytes of the count");
+                u64::from_le_bytes(bytes) as f64
+            }
+        }
+    }
+
+    /// The least that a measurement is to take, so that the clock's steps and
+    /// the reading of the count do not matter.
+    fn least(&self) -> f64 {
+        match self {
+            Meter::Clock(_) => 2e6,
+            Meter::Count(_) => 1e6,
+        }
+    }
+
+    fn unit(&self) -> &'static str {
+        match self {
+            Meter::Clock(_) => "ns",
+            Meter::Count(_) => "instructions",
+        }
+    }
 }
 
 struct Bench {
     rounds: u32,
-}
-
-/// The least time that a measurement is to take, so that the clock's steps do
-/// not matter.
-const LEAST: f64 = 0.002;
-
-/// Seconds for one time of the work, done so many times.
-fn seconds<I: Interface>(work: &mut impl Work, times: u32) -> (f64, u64) {
-    let mut answer = 0;
-    let started = Instant::now();
-    for _ in 0..times {
-        answer = black_box(work.work::<I>());
-    }
-    (started.elapsed().as_secs_f64() / f64::from(times), answer)
+    meter: Meter,
 }
 
 impl Bench {
     fn head(&self, title: &str, of: &str) {
-        println!("| {title} | {of} | plain, ns each | library, ns each | ratio |");
+        let unit = self.meter.unit();
+        println!("| {title} | {of} | plain, {unit} each | library, {unit} each | ratio |");
         println!("|---|---:|---:|---:|---:|");
+    }
+
+    /// What one time of the work takes, done so many times.
+    fn measure<I: Interface>(&self, work: &mut impl Work, times: u32) -> (f64, u64) {
+        let mut answer = 0;
+        let before = self.meter.read();
+        for _ in 0..times {
+            answer = black_box(work.work::<I>());
+        }
+        ((self.meter.read() - before) / f64::from(times), answer)
+    }
+
+    /// How often a work is to be done for one measurement.
+    fn times(&self, once: f64) -> u32 {
+        (self.meter.least() / once).ceil().clamp(1.0, 1e6) as u32
     }
 
     /// Measures a work that does `count` things, and prints its line.
     #[cfg(linked)]
     fn line(&self, name: &str, count: usize, work: &mut impl Work) {
-        let (once, answer) = seconds::<Plain>(work, 1);
-        let (_, other) = seconds::<Library>(work, 1);
+        let (once, answer) = self.measure::<Plain>(work, 1);
+        let (_, other) = self.measure::<Library>(work, 1);
         assert_eq!(answer, other, "{name}: the answers differ");
-        let times = (LEAST / once).ceil().clamp(1.0, 1e6) as u32;
+        let times = self.times(once);
         let (mut plain, mut library) = (f64::INFINITY, f64::INFINITY);
         for round in 0..self.rounds {
             // By turns, and each the first of the two every second time.
             if round % 2 == 0 {
-                plain = plain.min(seconds::<Plain>(work, times).0);
-                library = library.min(seconds::<Library>(work, times).0);
+                plain = plain.min(self.measure::<Plain>(work, times).0);
+                library = library.min(self.measure::<Library>(work, times).0);
             } else {
-                library = library.min(seconds::<Library>(work, times).0);
-                plain = plain.min(seconds::<Plain>(work, times).0);
+                library = library.min(self.measure::<Library>(work, times).0);
+                plain = plain.min(self.measure::<Plain>(work, times).0);
             }
         }
-        let each = 1e9 / count.max(1) as f64;
+        let each = count.max(1) as f64;
         println!(
             "| {name} | {count} | {:.2} | {:.2} | {:.2} |",
-            plain * each,
-            library * each,
+            plain / each,
+            library / each,
             library / plain
         );
     }
 
     #[cfg(not(linked))]
     fn line(&self, name: &str, count: usize, work: &mut impl Work) {
-        let (once, _) = seconds::<Plain>(work, 1);
-        let times = (LEAST / once).ceil().clamp(1.0, 1e6) as u32;
-        let plain = (0..self.rounds).map(|_| seconds::<Plain>(work, times).0).fold(f64::INFINITY, f64::min);
-        println!("| {name} | {count} | {:.2} | | |", plain * 1e9 / count.max(1) as f64);
+        let (once, _) = self.measure::<Plain>(work, 1);
+        let times = self.times(once);
+        let plain =
+            (0..self.rounds).map(|_| self.measure::<Plain>(work, times).0).fold(f64::INFINITY, f64::min);
+        println!("| {name} | {count} | {:.2} | | |", plain / count.max(1) as f64);
     }
 
     fn keys(&self) {
