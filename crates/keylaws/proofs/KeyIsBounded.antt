@@ -51,9 +51,9 @@ key-is-bounded R (suc left) s =
     let at : ℕ → List Word = through R (answers R left) s in
     let empty : length (emptyIf (R .holds s)) ≤ 1 = empty-most (R .holds s) in
     let turns : length (inTurn at 1 (R .events)) ≤ R .events * most (R .events) left =
-      turns-most at (most (R .events) left) (through-most R (answers R left) (most (R .events) left) (key-is-bounded R left) s) 1 (R .events) in
+    turns-most at (most (R .events) left) (through-most R (answers R left) (most (R .events) left) (key-is-bounded R left) s) 1 (R .events) in
     let both : length (emptyIf (R .holds s) ++ inTurn at 1 (R .events)) ≡ length (emptyIf (R .holds s)) + length (inTurn at 1 (R .events)) =
-      length-append (emptyIf (R .holds s)) (inTurn at 1 (R .events)) in
+    length-append (emptyIf (R .holds s)) (inTurn at 1 (R .events)) in
     omega arith
 
 kept-most : (test : Word → Bool) (ws : List Word) → length (keep test ws) ≤ length ws
