@@ -1,2 +1,3 @@
 pub mod Overwritten
 pub mod AspectsWritten
+pub mod CountBounded

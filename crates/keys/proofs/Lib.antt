@@ -3,4 +3,3 @@ pub mod SixBytes
 pub mod EventsCounted
 pub mod KeyOfAQuestion
 pub mod OneResult
-pub mod CountBounded

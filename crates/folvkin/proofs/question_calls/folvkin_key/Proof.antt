@@ -2,7 +2,7 @@
 use Prim.Native.Nat.{_≤_}
 use mathlib.Core.Path.{_≡_, sym, ap, subst}
 use Rattle.keys.specs.Calls.{Fetch}
-use Rattle.keys.proofs.CountBounded.{count-bounded}
+use Rattle.folvkin.proofs.CountBounded.{count-bounded}
 use Rattle.folvkin.specs.Questions.{packed-part}
 use borrow.Author.Needs.{needs}
 use Rattle.folvkin.proofs.question_calls.folvkin_key.Statement.{statement}
