@@ -1,10 +1,7 @@
-// The rules of the line block: what a plan and a situation are, when a situation is sound, and where an accepted event leads.
+// The line block: what a plan and a situation are, and when a situation is sound. Its rules are defined in specs/.
 pub mod codes;
-pub mod effects;
-pub mod expected;
 pub mod judged;
 pub mod line;
-pub mod pending;
 pub mod refused;
 pub mod situation;
 pub mod sound;

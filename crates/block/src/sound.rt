@@ -1,7 +1,7 @@
 // Whether a situation is sound: a test for each clause of the document.
 ghost use mathlib.Core.Path.{_≡_};
-ghost use Rattle.block.specs.Sound.{stationSound, stationsSound, link-up-agrees, link-down-apart, pending-sound, held-sound, setsSound, sound};
-use super::line::Direction;
+ghost use Rattle.sections.specs.Words.{_and_};
+ghost use Rattle.block.specs.Sound.{stationSound, stationsSound, link-up-agrees, link-down-apart, pending-sound, setsSound, sound};
 use super::line::Plan;
 use super::situation::Situation;
 use super::situation::Station;
@@ -9,7 +9,8 @@ use sections::has;
 use sections::sections_up_to;
 
 impl Station {
-    pub fn sound(self) -> bool
+    // Every clause on a station.
+    fn all_clauses_hold(self) -> bool
         ensures { λ r. ⌜ r ≡ stationSound self ⌝ }
     {
         let annulled = self.annulment.afbli | self.annulment.afble;
@@ -23,6 +24,25 @@ impl Station {
         let normal_not_annulled = !self.exit.normal | !annulled;
         let special_not_afbli = !self.exit.special | !self.annulment.afbli;
         codes_in_range & annulled_is_none & routed_is_open & normal_not_annulled & special_not_afbli
+    }
+
+    // Of a station that is not annulled and has no exit route only the orientation's code is asked.
+    pub fn sound(self) -> bool
+        ensures { λ r. ⌜ r ≡ stationSound self ⌝ }
+    {
+        if self.annulment.afbli {
+            return self.all_clauses_hold();
+        }
+        if self.annulment.afble {
+            return self.all_clauses_hold();
+        }
+        if self.exit.normal {
+            return self.all_clauses_hold();
+        }
+        if self.exit.special {
+            return self.all_clauses_hold();
+        }
+        !(self.orientation.out & self.orientation.inward)
     }
 }
 
@@ -45,7 +65,18 @@ impl Situation {
                 & !(self.own.orientation.inward & self.other.orientation.inward))
     }
 
-    fn pending_sound(self) -> bool
+    // One clause is for link up, the other for link down.
+    fn orientations_sound(self) -> bool
+        ensures { λ r. ⌜ r ≡ (link-up-agrees self and link-down-apart self) ⌝ }
+    {
+        if self.link {
+            return self.link_up_agrees();
+        }
+        self.link_down_apart()
+    }
+
+    // Every clause on a pending SOBB.
+    fn pending_clauses_hold(self) -> bool
         ensures { λ r. ⌜ r ≡ pending-sound self ⌝ }
     {
         let own = self.link
@@ -59,40 +90,54 @@ impl Situation {
             & (!self.pending.other | other)
     }
 
+    fn pending_sound(self) -> bool
+        ensures { λ r. ⌜ r ≡ pending-sound self ⌝ }
+    {
+        if self.pending.own {
+            return self.pending_clauses_hold();
+        }
+        if self.pending.other {
+            return self.pending_clauses_hold();
+        }
+        true
+    }
+
     fn stations_sound(self) -> bool
         ensures { λ r. ⌜ r ≡ stationsSound self ⌝ }
     {
+        if !self.pending_sound() {
+            return false;
+        }
+        if !self.orientations_sound() {
+            return false;
+        }
         let own = self.own;
+        if !own.sound() {
+            return false;
+        }
         let other = self.other;
-        own.sound()
-            & other.sound()
-            & self.link_up_agrees()
-            & self.link_down_apart()
-            & self.pending_sound()
+        other.sound()
     }
 
-    // The signals held in direction d are block signals of the plan.
-    fn held_sound(self, plan: Plan, d: Direction) -> bool
-        ensures { λ r. ⌜ r ≡ held-sound plan self d ⌝ }
-    {
-        let held = self.held(d);
-        let s = d.entrance();
-        let exit = plan.first_section(s);
-        sections_up_to(held, plan.sections) & !has(held, exit as u16)
-    }
-
+    // No set names what is no section, and the exit signals, of section 1 towards B and of section n towards A, are not held.
     fn sets_sound(self, plan: Plan) -> bool
         ensures { λ r. ⌜ r ≡ setsSound plan self ⌝ }
     {
-        let occupied = sections_up_to(self.occupied, plan.sections);
-        let towards_b = self.held_sound(plan, Direction::TowardsB);
-        let towards_a = self.held_sound(plan, Direction::TowardsA);
-        occupied & towards_b & towards_a
+        if !sections_up_to(self.occupied | self.heldb | self.helda, plan.sections) {
+            return false;
+        }
+        if has(self.heldb, 1) {
+            return false;
+        }
+        !has(self.helda, plan.sections as u16)
     }
 
     pub fn sound(self, plan: Plan) -> bool
         ensures { λ r. ⌜ r ≡ sound plan self ⌝ }
     {
-        self.stations_sound() & self.sets_sound(plan)
+        if !self.sets_sound(plan) {
+            return false;
+        }
+        self.stations_sound()
     }
 }

@@ -6,12 +6,16 @@ ghost use lib.ListN.{length, getD};
 ghost use Rattle.keylaws.specs.Continuation.{isContinuation};
 ghost use Rattle.keylaws.specs.Parts.{handed, partAfter};
 ghost use Rattle.keylaws.specs.Walk.{aims, starts};
-ghost use Rattle.rules.specs.RulesOf.{rulesOf};
+ghost use Rattle.packed.specs.Packed.{unpacked};
+ghost use Rattle.rules.specs.RulesOf.{tried, rulesOf};
+ghost use Rattle.rules.specs.Judged.{Readable, Judged};
 ghost use Rattle.engine.specs.Walked.{own, explored, attempted};
 use block::line::Plan;
-use block::situation::Situation;
+use packed::situation::Situation;
+use packed::situation::pack;
 use rules::tries::all_hold;
-use rules::tries::try_event;
+use rules::tries::reached_at;
+use rules::tries::refusal_at;
 use slots::form::FROM_START;
 use slots::room::Part;
 use slots::room::grow_slot;
@@ -60,7 +64,8 @@ fn start_of(from: [u8; 6], depth: usize, on: bool) -> Start
 // The situation's own answer, unless the walk is still on its way to the continuation.
 fn own_answer(plan: Plan, x: Situation, at: Node, readings: &[u8], room: &mut [u8]) -> Part
     requires { ⌜ 6 * at .count ≤ length (now room) ⌝ }
-    ensures put { λ r. ⌜ handed (now (room .exit)) (r .count) (r .more) ≡ own plan (now (readings .entry)) x at (now (room .entry)) ⌝ }
+    requires { ⌜ Readable plan (now readings) ⌝ }
+    ensures put { λ r. ⌜ handed (now (room .exit)) (r .count) (r .more) ≡ own plan (now (readings .entry)) (unpacked x) at (now (room .entry)) ⌝ }
     ensures fits { λ r. ⌜ 6 * r .count ≤ length (now (room .exit)) ⌝ }
 {
     let count = at.count;
@@ -75,6 +80,30 @@ fn own_answer(plan: Plan, x: Situation, at: Node, readings: &[u8], room: &mut [u
     }
 }
 
+// The answer that an accepted event ends. With no readings nothing has to be known of the situation that it leads to.
+fn last_answer(
+    x: Situation,
+    at: Node,
+    ask: Ask,
+    events: &[u8],
+    readings: &[u8],
+    place: usize,
+    room: &mut [u8],
+) -> Part
+    requires { ⌜ 6 * at .count ≤ length (now room) ⌝ }
+    requires { ⌜ (1 ≤ place) × (2 * place ≤ length (now events)) ⌝ }
+    requires { ⌜ tried (ask .plan) (now events) (unpacked x) place .refusal ≡ 0 ⌝ }
+    requires { ⌜ Readable (ask .plan) (now readings) ⌝ }
+    ensures put { λ r. ⌜ handed (now (room .exit)) (r .count) (r .more) ≡ own (ask .plan) (now (readings .entry)) (tried (ask .plan) (now (events .entry)) (unpacked x) place .next) at (now (room .entry)) ⌝ }
+    ensures fits { λ r. ⌜ 6 * r .count ≤ length (now (room .exit)) ⌝ }
+{
+    if readings.len() < 3 {
+        return own_answer(ask.plan, x, at, readings, room);
+    }
+    let reached = reached_at(ask.plan, x, events, place);
+    own_answer(ask.plan, reached, at, readings, room)
+}
+
 // The answers from a situation: the empty one if the readings hold, then those of its events, while length remains.
 fn explore(
     x: Situation,
@@ -86,7 +115,8 @@ fn explore(
 ) -> Part
     requires { ⌜ 6 * at .count ≤ length (now room) ⌝ }
     requires { ⌜ (length (now events) ≤ 24) × (at .depth + at .left ≤ 5) ⌝ }
-    ensures put { λ r. ⌜ handed (now (room .exit)) (r .count) (r .more) ≡ explored ask (now (events .entry)) (now (readings .entry)) x at (now (room .entry)) ⌝ }
+    requires { ⌜ Judged (ask .plan) (now events) (now readings) ⌝ }
+    ensures put { λ r. ⌜ handed (now (room .exit)) (r .count) (r .more) ≡ explored ask (now (events .entry)) (now (readings .entry)) (unpacked x) at (now (room .entry)) ⌝ }
     ensures fits { λ r. ⌜ 6 * r .count ≤ length (now (room .exit)) ⌝ }
 {
     let own = own_answer(ask.plan, x, at, readings, room);
@@ -112,7 +142,8 @@ fn attempt(
 ) -> Part
     requires { ⌜ 6 * at .count ≤ length (now room) ⌝ }
     requires { ⌜ (length (now events) ≤ 24) × (at .depth + at .left ≤ 5) × (1 ≤ at .left) ⌝ }
-    ensures put { λ r. ⌜ handed (now (room .exit)) (r .count) (r .more) ≡ attempted ask (now (events .entry)) (now (readings .entry)) x at (now (room .entry)) ⌝ }
+    requires { ⌜ Judged (ask .plan) (now events) (now readings) ⌝ }
+    ensures put { λ r. ⌜ handed (now (room .exit)) (r .count) (r .more) ≡ attempted ask (now (events .entry)) (now (readings .entry)) (unpacked x) at (now (room .entry)) ⌝ }
     ensures fits { λ r. ⌜ 6 * r .count ≤ length (now (room .exit)) ⌝ }
 {
     let n = events.len() / 2;
@@ -125,8 +156,7 @@ fn attempt(
     let mut place = start.place;
     let mut count = at.count;
     while place <= n {
-        let tried = try_event(ask.plan, x, events, place);
-        if tried.refusal == 0 {
+        if refusal_at(ask.plan, x, events, place) == 0 {
             let node = Node {
                 slot: grow_slot(slot, depth, place),
                 depth: depth + 1,
@@ -134,7 +164,12 @@ fn attempt(
                 on,
                 count,
             };
-            let part = explore(tried.next, node, ask, events, readings, room);
+            let part = if left == 1 {
+                last_answer(x, node, ask, events, readings, place, room)
+            } else {
+                let reached = reached_at(ask.plan, x, events, place);
+                explore(reached, node, ask, events, readings, room)
+            };
             if part.more {
                 return part;
             }
@@ -148,7 +183,7 @@ fn attempt(
 
 // A part of the key: the slots that come after the continuation, as many as the room holds or remain.
 pub fn key_part(
-    start: Situation,
+    start: block::situation::Situation,
     limit: usize,
     ask: Ask,
     events: &[u8],
@@ -157,6 +192,7 @@ pub fn key_part(
 ) -> Part
     requires { ⌜ (length (now events) ≤ 24) × (limit ≤ 5) ⌝ }
     requires { ⌜ isContinuation (length (now events) / 2) limit (ask .from) ≡ true ⌝ }
+    requires { ⌜ Judged (ask .plan) (now events) (now readings) ⌝ }
     ensures { λ r. ⌜ handed (now (room .exit)) (r .count) (r .more) ≡ partAfter (rulesOf (ask .plan) (now (events .entry)) (now (readings .entry))) limit start (ask .from) (now (room .entry)) ⌝ }
 {
     let from = ask.from;
@@ -167,5 +203,6 @@ pub fn key_part(
         on: from[0] != FROM_START,
         count: 0,
     };
-    explore(start, root, ask, events, readings, room)
+    let first = pack(start);
+    explore(first, root, ask, events, readings, room)
 }

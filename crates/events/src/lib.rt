@@ -1,8 +1,9 @@
 // Orders and happenings: an event, as its two bytes, on a situation that is kept as A sees it.
 ghost use mathlib.Core.Path.{_≡_};
-ghost use Rattle.block.specs.Checks.{refusal, effect};
-ghost use Rattle.events.specs.Rows.{event-of, row, clears-pending, next};
-ghost use Rattle.events.specs.Apply.{known, of-signal, of-section, of-link, argument-right, named, place, acted, stepped, applied};
+ghost use Rattle.block.specs.Checks.{refusal};
+ghost use Rattle.packed.specs.Packed.{unpacked};
+ghost use Rattle.events.specs.Rows.{event-of, row, next};
+ghost use Rattle.events.specs.Apply.{known, of-signal, of-section, of-link, argument-right, named, place, own-refusal, reached, stepped, applied};
 use block::judged::judged;
 use block::line::Direction;
 use block::line::Name;
@@ -11,7 +12,8 @@ use block::line::direction_of;
 use block::line::section_of;
 use block::refused::UNKNOWN_CODE;
 use block::refused::WRONG_ARGUMENT;
-use block::situation::Situation;
+use packed::situation::Situation;
+use packed::situation::pack;
 
 pub enum Event {
     Sobb,
@@ -50,7 +52,7 @@ pub struct Place {
 // The refusal, 0 where the event is accepted, and the situation after.
 pub struct Outcome {
     pub refusal: u8,
-    pub next: Situation,
+    pub next: block::situation::Situation,
 }
 
 fn event_of(code: u8) -> Event
@@ -84,7 +86,7 @@ fn event_of(code: u8) -> Event
 }
 
 fn refusal_of(x: Situation, e: Event, at: Place) -> u8
-    ensures { λ r. ⌜ r ≡ refusal (row e at x) ⌝ }
+    ensures { λ r. ⌜ r ≡ refusal (row e at (unpacked x)) ⌝ }
 {
     let k = at.section;
     let d = at.direction;
@@ -115,62 +117,39 @@ fn refusal_of(x: Situation, e: Event, at: Place) -> u8
     }
 }
 
-fn occupied(x: Situation, at: Place) -> Situation
-    ensures { λ r. ⌜ r ≡ effect (row Event.Occupied at x) ⌝ }
+// Where the event leads. AFBLI, AFBLE, a section occupied and link lost clear pending by themselves.
+fn next_of(x: Situation, code: u8, at: Place) -> Situation
+    ensures { λ r. ⌜ unpacked r ≡ next code at (unpacked x) ⌝ }
 {
-    let k = at.section;
     let plan = at.plan;
     let own = at.own;
-    let expected = x.expected(plan, own, k);
-    let first = plan.is_first(own, k as u16);
-    x.occupied(k, expected, first)
-}
-
-fn effect_of(x: Situation, e: Event, at: Place) -> Situation
-    ensures { λ r. ⌜ r ≡ effect (row e at x) ⌝ }
-{
     let k = at.section;
     let d = at.direction;
-    match e {
-        Event::Sobb => x.sobb(),
-        Event::Cobb => x.cobb(),
-        Event::Afbli => x.afbli(),
-        Event::Afble => x.afble(),
-        Event::Dafbl => x.dafbl(),
-        Event::Bilc => x.bilc(),
-        Event::Dilc => x.dilc(),
-        Event::Bslg => x.bslg(),
-        Event::BslgOff => x.bslg_off(),
-        Event::Bslb => x.bslb(d, k),
-        Event::BslbOff => x.bslb_off(d, k),
-        Event::Reminder => x.reminder(),
-        Event::ReminderOff => x.reminder_off(),
-        Event::ExitNormal => x.exit_normal(),
-        Event::ExitSpecial => x.exit_special(),
-        Event::ExitReleased => x.exit_released(),
-        Event::Entry => x.entry(),
-        Event::EntryReleased => x.entry_released(),
-        Event::Occupied => occupied(x, at),
-        Event::Freed => x.freed(k),
-        Event::LinkLost => x.link_lost(),
-        Event::LinkRestored => x.link_restored(),
-        Event::Unknown => x,
+    match code {
+        1 => x.sobb().pending_settled(false, x),
+        2 => x.cobb().pending_settled(false, x),
+        3 => x.afbli().pending_settled(true, x),
+        4 => x.afble().pending_settled(true, x),
+        5 => x.dafbl().pending_settled(false, x),
+        6 => x.bilc().pending_settled(false, x),
+        7 => x.dilc().pending_settled(false, x),
+        8 => x.bslg().pending_settled(false, x),
+        9 => x.bslg_off().pending_settled(false, x),
+        10 => x.bslb(d, k).pending_settled(false, x),
+        11 => x.bslb_off(d, k).pending_settled(false, x),
+        12 => x.reminder().pending_settled(false, x),
+        13 => x.reminder_off().pending_settled(false, x),
+        14 => x.exit_normal().pending_settled(false, x),
+        15 => x.exit_special().pending_settled(false, x),
+        16 => x.exit_released().pending_settled(false, x),
+        17 => x.entry().pending_settled(false, x),
+        18 => x.entry_released().pending_settled(false, x),
+        19 => x.occupied(plan, own, k).pending_settled(true, x),
+        20 => x.freed(k).pending_settled(false, x),
+        21 => x.link_lost().pending_settled(true, x),
+        22 => x.link_restored().pending_settled(false, x),
+        _ => x.pending_settled(false, x),
     }
-}
-
-fn clears_pending(code: u8) -> bool
-    ensures { λ r. ⌜ r ≡ clears-pending code ⌝ }
-{
-    (code == 3) | (code == 4) | (code == 19) | (code == 21)
-}
-
-fn next_of(x: Situation, code: u8, at: Place) -> Situation
-    ensures { λ r. ⌜ r ≡ next code at x ⌝ }
-{
-    let e = event_of(code);
-    let always = clears_pending(code);
-    let y = effect_of(x, e, at);
-    y.pending_settled(always, x)
 }
 
 pub fn known(code: u8) -> bool
@@ -240,50 +219,63 @@ fn place_of(plan: Plan, code: u8, arg: u8) -> Place
     }
 }
 
-// An event whose code is known and whose argument is right.
-fn act(plan: Plan, x: Situation, code: u8, arg: u8) -> Outcome
-    ensures { λ r. ⌜ r ≡ acted plan x code arg ⌝ }
+// The event's own refusal, of a code that is known and an argument that is right.
+pub fn own_refusal(plan: Plan, x: Situation, code: u8, arg: u8) -> u8
+    ensures { λ r. ⌜ r ≡ own-refusal plan (unpacked x) code arg ⌝ }
 {
     let e = event_of(code);
     let at = place_of(plan, code, arg);
     let own = at.own;
     let seen = x.seen_from(own);
-    let refusal = refusal_of(seen, e, at);
-    if refusal == 0 {
-        let reached = next_of(seen, code, at);
-        let next = reached.seen_from(own);
-        return Outcome { refusal: 0, next };
-    }
-    Outcome { refusal, next: x }
+    refusal_of(seen, e, at)
 }
 
 // Refusals 3 unknown code, 4 argument, then the event's own, for a plan and a situation that are judged already.
-pub fn step(plan: Plan, x: Situation, code: u8, arg: u8) -> Outcome
-    ensures { λ r. ⌜ r ≡ stepped plan x code arg ⌝ }
+pub fn refusal(plan: Plan, x: Situation, code: u8, arg: u8) -> u8
+    ensures { λ r. ⌜ r ≡ stepped plan (unpacked x) code arg .refusal ⌝ }
 {
     if !known(code) {
-        return Outcome {
-            refusal: UNKNOWN_CODE,
-            next: x,
-        };
+        return UNKNOWN_CODE;
     }
     if !argument_right(plan, code, arg) {
-        return Outcome {
-            refusal: WRONG_ARGUMENT,
-            next: x,
-        };
+        return WRONG_ARGUMENT;
     }
-    act(plan, x, code, arg)
+    own_refusal(plan, x, code, arg)
+}
+
+// Where an accepted event leads.
+pub fn next(plan: Plan, x: Situation, code: u8, arg: u8) -> Situation
+    ensures { λ r. ⌜ unpacked r ≡ reached plan (unpacked x) code arg ⌝ }
+{
+    let at = place_of(plan, code, arg);
+    let own = at.own;
+    let seen = x.seen_from(own);
+    let reached = next_of(seen, code, at);
+    reached.seen_from(own)
+}
+
+// A plan and a situation that are judged already.
+fn step(plan: Plan, x: block::situation::Situation, code: u8, arg: u8) -> Outcome
+    ensures { λ r. ⌜ r ≡ stepped plan x code arg ⌝ }
+{
+    let packed = pack(x);
+    let refusal = refusal(plan, packed, code, arg);
+    if refusal != 0 {
+        return Outcome { refusal, next: x };
+    }
+    let reached = next(plan, packed, code, arg);
+    let next = reached.unpacked();
+    Outcome { refusal: 0, next }
 }
 
 // Refusals 1 plan, 2 situation not sound, 3 unknown code, 4 argument, then the event's own. A refused event hands the situation back
 // unchanged.
-pub fn apply(plan: Plan, x: Situation, code: u8, arg: u8) -> Outcome
+pub fn apply(plan: Plan, x: block::situation::Situation, code: u8, arg: u8) -> Outcome
     ensures { λ r. ⌜ r ≡ applied plan x code arg ⌝ }
 {
     let refusal = judged(plan, x);
-    if refusal == 0 {
-        return step(plan, x, code, arg);
+    if refusal != 0 {
+        return Outcome { refusal, next: x };
     }
-    Outcome { refusal, next: x }
+    step(plan, x, code, arg)
 }

@@ -10,6 +10,8 @@ use Rattle.block.specs.declared.line.Plan.{Plan}
 use Rattle.block.specs.declared.situation.Situation.{Situation}
 use Rattle.events.specs.Apply.{applied}
 use Rattle.signals.specs.Aspects.{aspect}
+use Rattle.signals.specs.SignalSets.{shown}
+use Rattle.signals.specs.declared.lights.Lights.{Lights}
 use Rattle.signals.specs.Readings.{reading}
 use Rattle.signals.specs.declared.readings.Told.{Told}
 use Rattle.records.specs.Situation.{situation-of, situation-bytes}
@@ -48,6 +50,11 @@ signal-at n i = if ltb i n then 1 + i else 129 + (i - n)
 unfoldable pub first-aspects : Plan → Situation → ℕ → List ℕ
 first-aspects p x zero = []
 first-aspects p x (suc i) = first-aspects p x i ++ (aspect p x (signal-at (p .sections) i) ∷ [])
+
+-- what the signals of a direction show over the first sections
+unfoldable pub first-shown : Lights → ℕ → List ℕ
+first-shown l zero = []
+first-shown l (suc i) = first-shown l i ++ (shown l (i + 1) ∷ [])
 
 module _ (n b : ℕ) (si room : List ℕ) where
   -- "room too short is 24", after 20, 1 and 2

@@ -1,20 +1,27 @@
 // Plans, situations, events, aspects and readings. `si` is the body of record SI, 19 bytes; another length is refused with 20.
 ghost use mathlib.Core.Path.{_≡_};
-ghost use Prim.Native.Nat.{_+_, _≤_, _<_};
+ghost use mathlib.Core.Bool.{true};
+ghost use Prim.Native.Nat.{_+_, _≤_};
 ghost use mathlib.Core.List.{_++_};
 ghost use lib.ListN.{length, drop};
 ghost use Rattle.block.specs.Judged.{plan-judged};
-ghost use Rattle.folvkin.specs.Block.{plan-of, situation-refusal, event-refusal, si-after, reading-packed, signal-at, first-aspects, aspects-refusal, aspects-room};
+ghost use Rattle.block.specs.Line.{isPlan};
+ghost use Rattle.packed.specs.Packed.{unpacked};
+ghost use Rattle.folvkin.specs.Block.{plan-of, situation-refusal, event-refusal, si-after, reading-packed, first-shown, first-aspects, aspects-refusal, aspects-room};
 use block::judged::judged;
 use block::judged::plan_judged;
+use block::line::Direction;
 use block::line::Plan;
 use block::refused::NO_FORM;
 use block::refused::SHORT_ROOM;
-use block::situation::Situation;
 use events::apply;
+use packed::situation::pack;
 use records::situation::situation_bytes;
 use records::situation::situation_of;
-use signals::aspects::aspect_of;
+use sections::one_down;
+use signals::lights::Lights;
+use signals::lights::lit;
+use signals::lights::shown;
 use signals::readings::reading;
 
 #[no_mangle]
@@ -86,30 +93,35 @@ pub extern "C" fn folvkin_reading(n: u8, b: u8, si: &[u8], kind: u8, argument: u
     NO_FORM as u32
 }
 
-// The signals 1..n, then 129..128+n.
-fn signal_at(n: u8, i: usize) -> u8
-    requires { ⌜ (n ≤ 63) × (i < n + n) ⌝ }
-    ensures { λ r. ⌜ r ≡ signal-at n i ⌝ }
+// The aspects of the signals of a direction over the sections 1..n, each as section 0 of sets that move down. Later bytes keep their
+// values.
+fn show_direction(lights: Lights, n: u8, room: &mut [u8])
+    requires { ⌜ n ≤ length (now room) ⌝ }
+    ensures { λ _. ⌜ now (room .exit) ≡ first-shown lights n ++ drop n (now (room .entry)) ⌝ }
 {
-    let k = n as usize;
-    if i < k {
-        return (1 + i) as u8;
-    }
-    (129 + (i - k)) as u8
-}
-
-fn show(plan: Plan, x: Situation, room: &mut [u8])
-    requires { ⌜ (plan .sections ≤ 63) × (plan .sections + plan .sections ≤ length (now room)) ⌝ }
-    ensures { λ _. ⌜ now (room .exit) ≡ first-aspects plan x (plan .sections + plan .sections) ++ drop (plan .sections + plan .sections) (now (room .entry)) ⌝ }
-{
-    let n = plan.sections;
-    let end = n as usize + n as usize;
+    let end = n as usize;
+    let mut open = lights.open;
+    let mut green = lights.green;
     let mut i: usize = 0;
     while i < end {
-        let signal = signal_at(n, i);
-        room[i] = aspect_of(plan, x, signal);
+        open = one_down(open);
+        green = one_down(green);
+        room[i] = shown(Lights { open, green }, 0);
         i += 1;
     }
+}
+
+// The signals 1..n, then 129..128+n.
+fn show(plan: Plan, x: packed::situation::Situation, room: &mut [u8])
+    requires { ⌜ (isPlan plan ≡ true) × (plan .sections + plan .sections ≤ length (now room)) ⌝ }
+    ensures { λ _. ⌜ now (room .exit) ≡ first-aspects plan (unpacked x) (plan .sections + plan .sections) ++ drop (plan .sections + plan .sections) (now (room .entry)) ⌝ }
+{
+    let n = plan.sections;
+    let to_b = lit(plan, x, Direction::TowardsB);
+    let to_a = lit(plan, x, Direction::TowardsA);
+    show_direction(to_b, n, room);
+    let at = n as usize;
+    show_direction(to_a, n, &mut room[at..]);
 }
 
 // Writes 2n bytes: the aspects of 1..n, then of 129..128+n. A room too short is refused with 24; later bytes keep their values.
@@ -118,19 +130,23 @@ pub extern "C" fn folvkin_aspects(n: u8, b: u8, si: &[u8], room: &mut [u8]) -> u
     ensures { λ r. ⌜ r ≡ aspects-refusal n b (now (si .entry)) (now (room .entry)) ⌝ }
     ensures { λ _. ⌜ now (room .exit) ≡ aspects-room n b (now (si .entry)) (now (room .entry)) ⌝ }
 {
-    let refusal = folvkin_situation(n, b, si);
-    if refusal == 0 {
-        let end = n as usize + n as usize;
-        if end <= room.len() {
-            let plan = Plan {
-                sections: n,
-                frontier: b,
-            };
-            let x = situation_of(si);
-            show(plan, x, room);
-            return 0;
+    if si.len() == 19 {
+        let plan = Plan {
+            sections: n,
+            frontier: b,
+        };
+        let x = situation_of(si);
+        let unfit = judged(plan, x);
+        if unfit == 0 {
+            let end = n as usize + n as usize;
+            if end <= room.len() {
+                let packed = pack(x);
+                show(plan, packed, room);
+                return 0;
+            }
+            return SHORT_ROOM;
         }
-        return SHORT_ROOM;
+        return unfit;
     }
-    refusal
+    NO_FORM
 }

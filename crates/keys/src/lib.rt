@@ -9,7 +9,7 @@ ghost use Rattle.keylaws.specs.Parts.{handed, partAfter};
 ghost use Rattle.keylaws.specs.Run.{run};
 ghost use Rattle.rules.specs.Told.{outcome};
 ghost use Rattle.paper.specs.Read.{readOf};
-ghost use Rattle.keys.specs.Key.{rules, Bounded};
+ghost use Rattle.keys.specs.Key.{rules, Bounded, Judged};
 ghost use Rattle.keys.specs.Calls.{none, left-by, part-of, fetched, not-run, slot-run, ran};
 use block::refused::ACCEPTED;
 use block::refused::MALFORMED_SLOT;
@@ -68,6 +68,7 @@ fn six(x: &[u8]) -> [u8; 6]
 fn part_after(q: Question, after: &[u8], room: &mut [u8]) -> Part
     requires { ⌜ Bounded q ⌝ }
     requires { ⌜ isContinuation (rules q .events) (q .length) (now after) ≡ true ⌝ }
+    requires { ⌜ Judged q ⌝ }
     ensures { λ r. ⌜ handed (now (room .exit)) (r .count) (r .more) ≡ partAfter (rules q) (q .length) (q .situation) (now (after .entry)) (now (room .entry)) ⌝ }
 {
     let events = q.events.bytes;
@@ -84,6 +85,7 @@ fn part_after(q: Question, after: &[u8], room: &mut [u8]) -> Part
 // An accepted question: refusals 22, 24.
 fn fetch(q: Question, after: &[u8], room: &mut [u8]) -> Fetched
     requires { ⌜ Bounded q ⌝ }
+    requires { ⌜ Judged q ⌝ }
     ensures { λ r. ⌜ left-by r (now (room .exit)) ≡ part-of q (now (after .entry)) (now (room .entry)) ⌝ }
 {
     if !is_continuation(q.events.count, q.length, after) {
@@ -116,6 +118,7 @@ pub fn key(bytes: &[u8], after: &[u8], room: &mut [u8]) -> Fetched
 fn run_slot(q: Question, slot: &[u8]) -> Told
     requires { ⌜ Bounded q ⌝ }
     requires { ⌜ isSlot (rules q .events) (q .length) (now slot) ≡ true ⌝ }
+    requires { ⌜ Judged q ⌝ }
     ensures { λ r. ⌜ outcome r ≡ run (rules q) (q .situation) (wordOf (now (slot .entry))) ⌝ }
 {
     let events = q.events.bytes;
@@ -146,6 +149,7 @@ fn not_run(refusal: u8) -> Ran
 // An accepted question: refusal 22.
 fn run_in(q: Question, slot: &[u8]) -> Ran
     requires { ⌜ Bounded q ⌝ }
+    requires { ⌜ Judged q ⌝ }
     ensures { λ r. ⌜ r ≡ slot-run q (now (slot .entry)) ⌝ }
 {
     if !is_slot(q.events.count, q.length, slot) {

@@ -31,11 +31,17 @@ unfolding decimal digits-in
 decimal-more zero h = absurd (omega arith)
 decimal-more (suc m) h = rw (le-ltb (suc m) 10 h, same-digits m (suc m / 10) (suc m / 10) (omega arith) (omega arith))
 
+pub decimal-two : (n : ℕ) → 10 ≤ n → n < 100 → decimal n ≡ digit (n / 10) ∷ digit (n % 10) ∷ []
+decimal-two n h l = rw (decimal-more n h, decimal-one (n / 10) (omega arith))
+
 pub length-one : (n : ℕ) → n < 10 → length (decimal n) ≡ 1
 length-one n h = rw (decimal-one n h)
 
 pub length-more : (n : ℕ) → 10 ≤ n → length (decimal n) ≡ length (decimal (n / 10)) + 1
 length-more n h = rw (decimal-more n h, length-append)
+
+pub length-two : (n : ℕ) → 10 ≤ n → n < 100 → length (decimal n) ≡ 2
+length-two n h l = rw (decimal-two n h l)
 
 one-more : (n k : ℕ) (b : Bool) → ltb n 10 ≡ b → (10 ≤ n → length (decimal (n / 10)) ≤ k) → length (decimal n) ≤ suc k
 one-more n k true e f = omega (arith, length-one n (ltb-true n 10 e))

@@ -23,21 +23,19 @@ unfolding spaced
 spaced-none [] h = refl
 spaced-none (p ∷ w) h = absurd (omega arith)
 
-pub spaced-length : (w : Word) (p : ℕ) → 0 < length w → p ≡ getD w 0 0 → length (spaced w) ≡ 1 + (length (decimal p) + length (spaced (drop 1 w)))
+pub spaced-length : (w : Word) → 0 < length w → length (spaced w) ≡ 1 + (length (decimal (getD w 0 0)) + length (spaced (drop 1 w)))
 unfolding spaced
-spaced-length [] p h e = absurd (omega arith)
-spaced-length (q ∷ w) p h e = rw (e, length-append) (omega arith)
+spaced-length [] h = absurd (omega arith)
+spaced-length (p ∷ w) h = rw length-append (omega arith)
 
-pub spaced-step : (w : Word) (p end next : ℕ) (now room : List ℕ) → 0 < length w → p ≡ getD w 0 0 → end + length (spaced w) ≤ length room
-    → next ≡ end + 1 + length (decimal p) → now ≡ over (end + 1) (decimal p) (set room end space) → over next (spaced (drop 1 w)) now ≡ over end (spaced w) room
+pub spaced-step : (w : Word) (end next : ℕ) (now room : List ℕ) → 0 < length w → end + length (spaced w) ≤ length room
+    → next ≡ end + 1 + length (decimal (getD w 0 0)) → now ≡ over (end + 1) (decimal (getD w 0 0)) (set room end space) → over next (spaced (drop 1 w)) now ≡ over end (spaced w) room
 unfolding spaced
-spaced-step [] p end next now room h e fits at f = absurd (omega arith)
-spaced-step (q ∷ w) p end next now room h e fits at f =
-    let long = length-append (decimal q) (spaced w) in
-    let same : length (decimal p) ≡ length (decimal q) = rw e in
-    let spaced-one = over-one end space room (omega arith) in
+spaced-step [] end next now room h fits at f = absurd (omega arith)
+spaced-step (p ∷ w) end next now room h fits at f =
+    let long = length-append (decimal p) (spaced w) in
     then-text (end + 1) next (decimal p) (spaced w) now (set room end space) at f (rw length-set (omega arith))
-    ∙ rw (spaced-one, e) (over-over end (space ∷ []) (decimal q ++ spaced w) room (omega arith))
+    ∙ rw (over-one end space room (omega arith)) (over-over end (space ∷ []) (decimal p ++ spaced w) room (omega arith))
 
 -- ---- lines
 pub line-none : (w : Word) → length w ≡ 0 → line w ≡ hyphen ∷ newline ∷ []
@@ -45,13 +43,13 @@ unfolding line
 line-none [] h = refl
 line-none (p ∷ w) h = absurd (omega arith)
 
-pub line-more : (w : Word) (p : ℕ) → (length w ≡ 0 → ⊥) → p ≡ getD w 0 0 → line w ≡ (decimal p ++ spaced (drop 1 w)) ++ (newline ∷ [])
+pub line-more : (w : Word) → (length w ≡ 0 → ⊥) → line w ≡ (decimal (getD w 0 0) ++ spaced (drop 1 w)) ++ (newline ∷ [])
 unfolding line
-line-more [] p h e = absurd (h refl)
-line-more (q ∷ w) p h e = rw e (sym (append-assoc (decimal q) (spaced w) (newline ∷ [])))
+line-more [] h = absurd (h refl)
+line-more (p ∷ w) h = sym (append-assoc (decimal p) (spaced w) (newline ∷ []))
 
-pub line-length : (w : Word) (p : ℕ) → (length w ≡ 0 → ⊥) → p ≡ getD w 0 0 → length (line w) ≡ length (decimal p) + length (spaced (drop 1 w)) + 1
-line-length w p h e = rw (line-more w p h e, length-append, length-append)
+pub line-length : (w : Word) → (length w ≡ 0 → ⊥) → length (line w) ≡ length (decimal (getD w 0 0)) + length (spaced (drop 1 w)) + 1
+line-length w h = rw (line-more w h, length-append, length-append)
 
 pub labelled-length : (label : List ℕ) (n : ℕ) → length (labelled label n) ≡ length label + 1 + length (decimal n) + 1
 unfolding labelled

@@ -38,6 +38,10 @@ pub then-one : (at last x : ℕ) (a now room : List ℕ) → last ≡ at + lengt
 then-one at last x a now room e f h =
     rw (e, f) (over-one (at + length a) x (over at a room) (rw (length-over at a room (omega arith)) h) ∙ over-over at a (x ∷ []) room (omega arith))
 
+-- two bytes, one after the other
+pub over-two : (at x y : ℕ) (room : List ℕ) → at + 1 < length room → set (set room at x) (at + 1) y ≡ over at (x ∷ y ∷ []) room
+over-two at x y room h = then-one at (at + 1) y (x ∷ []) (set room at x) room refl (over-one at x room (omega arith)) h
+
 -- after a text that ends at `last`, a text more
 pub then-text : (at last : ℕ) (a b now room : List ℕ) → last ≡ at + length a → now ≡ over at a room → at + length a ≤ length room → over last b now ≡ over at (a ++ b) room
 then-text at last a b now room e f h = rw (e, f) (over-over at a b room h)

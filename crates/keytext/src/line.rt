@@ -6,13 +6,8 @@ ghost use Rattle.keylaws.specs.Slots.{wordOf};
 ghost use Rattle.keytext.specs.Text.{line, spaced, labelled};
 ghost use Rattle.keytext.specs.Room.{over};
 use super::number::put_number;
+use super::number::put_place;
 use slots::form::SLOT;
-
-fn wide(byte: u8) -> u64
-    ensures { λ r. ⌜ r ≡ byte ⌝ }
-{
-    byte as u64
-}
 
 // The places of the slot at the front.
 pub(crate) fn word_of(slots: &[u8]) -> &[u8]
@@ -38,7 +33,7 @@ fn put_spaced(word: &[u8], at: usize, room: &mut [u8]) -> usize
     let mut end = at;
     while 0 < left.len() {
         room[end] = b' ';
-        end = put_number(wide(left[0]), end + 1, room);
+        end = put_place(left[0], end + 1, room);
         left = &left[1..];
     }
     end
@@ -55,7 +50,7 @@ pub(crate) fn put_line(word: &[u8], at: usize, room: &mut [u8]) -> usize
         room[at + 1] = b'\n';
         return at + 2;
     }
-    let first = put_number(wide(word[0]), at, room);
+    let first = put_place(word[0], at, room);
     let last = put_spaced(&word[1..], first, room);
     room[last] = b'\n';
     last + 1

@@ -26,3 +26,22 @@ pub(crate) fn put_number(n: u64, at: usize, room: &mut [u8]) -> usize
     room[last] = digit(n % 10);
     last + 1
 }
+
+// A place in decimal from `at` on; returns where it ends. Most places have one digit or two.
+pub(crate) fn put_place(place: u8, at: usize, room: &mut [u8]) -> usize
+    requires { ⌜ at + length (decimal place) ≤ length (now room) ⌝ }
+    ensures end { λ r. ⌜ r ≡ at + length (decimal place) ⌝ }
+    ensures room { λ _. ⌜ now (room .exit) ≡ over at (decimal place) (now (room .entry)) ⌝ }
+{
+    let n = place as u64;
+    if n < 10 {
+        room[at] = digit(n);
+        return at + 1;
+    }
+    if n < 100 {
+        room[at] = digit(n / 10);
+        room[at + 1] = digit(n % 10);
+        return at + 2;
+    }
+    put_number(n, at, room)
+}

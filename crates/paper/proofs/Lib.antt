@@ -1,4 +1,5 @@
 pub mod Steps
+pub mod EventsApart
 pub mod Accepted
 pub mod Assembled
 pub mod Laid

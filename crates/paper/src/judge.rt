@@ -1,7 +1,8 @@
 // Whether a question is accepted, and the refusal of any other: counts out of range 20, then 1, 2, 3 and 4 event by event, then 21.
 ghost use mathlib.Core.Path.{_≡_};
-ghost use Prim.Native.Nat.{_≤_};
-ghost use Rattle.paper.specs.Question.{events-of, readings-of};
+ghost use Prim.Native.Nat.{_+_, _*_, _/_, _%_, _≤_, _<_};
+ghost use mathlib.Core.Bool.{true, false};
+ghost use lib.ListN.{take};
 ghost use Rattle.paper.specs.Refusal.{event-refusal, events-refusal, listed, listed-twice, readings-in-range, lists-refusal, counts-in-range, refusalOf};
 use super::question::Question;
 use block::judged::judged;
@@ -11,11 +12,16 @@ use block::refused::NO_FORM;
 use block::refused::OUT_OF_RANGE;
 use block::refused::UNKNOWN_CODE;
 use block::refused::WRONG_ARGUMENT;
+use block::situation::Situation;
 use events::argument_right;
 use events::known;
 use records::form::wide;
+use records::lists::Events;
 use records::lists::MOST_EVENTS;
 use records::lists::MOST_READINGS;
+use records::lists::Readings;
+use sections::has;
+use sections::with_section;
 use signals::readings::reading_in_range;
 
 pub const LONGEST: u8 = 5;
@@ -59,7 +65,8 @@ fn listed(code: u8, arg: u8, events: &[u8]) -> bool
     false
 }
 
-fn listed_twice(events: &[u8]) -> bool
+// Whether an event is listed twice: each is compared with those after it.
+fn compared(events: &[u8]) -> bool
     ensures { λ r. ⌜ r ≡ listed-twice (now (events .entry)) ⌝ }
 {
     let mut left = events;
@@ -70,6 +77,49 @@ fn listed_twice(events: &[u8]) -> bool
         left = &left[2..];
     }
     false
+}
+
+// The word, of four, in which an event has its bit.
+fn word_of(code: u8) -> usize
+    ensures { λ r. ⌜ (r ≡ code % 4) × (r < 4) ⌝ }
+{
+    wide(code % 4)
+}
+
+// The bit of an event in that word: few events of a question share one.
+fn bit_of(code: u8, arg: u8) -> u8
+    ensures { λ r. ⌜ (r ≡ (2 * (code / 4) + arg) % 64) × (r < 64) ⌝ }
+{
+    ((2 * wide(code / 4) + wide(arg)) % 64) as u8
+}
+
+// Whether no two events share a bit. Then none is listed twice.
+fn apart(events: &[u8]) -> bool
+    ensures { λ r. ⌜ (r ≡ true → listed-twice (now (events .entry)) ≡ false) ⌝ }
+{
+    let mut seen = [0u64; 4];
+    let mut left = events;
+    while 2 <= left.len() {
+        let word = word_of(left[0]);
+        let bit = bit_of(left[0], left[1]);
+        let before = seen[word];
+        if has(before, bit as u16) {
+            return false;
+        }
+        let after = with_section(before, bit);
+        seen[word] = after;
+        left = &left[2..];
+    }
+    true
+}
+
+fn listed_twice(events: &[u8]) -> bool
+    ensures { λ r. ⌜ r ≡ listed-twice (now (events .entry)) ⌝ }
+{
+    if apart(events) {
+        return false;
+    }
+    compared(events)
 }
 
 fn readings_in_range(plan: Plan, readings: &[u8]) -> bool
@@ -109,26 +159,39 @@ fn counts_in_range(events: u8, readings: u8) -> bool
 }
 
 // What the listed events, the readings and the length give.
-fn body_refusal(q: Question) -> u8
-    requires { ⌜ (q .events .count ≤ 12) × (q .readings .count ≤ 6) ⌝ }
-    ensures { λ r. ⌜ r ≡ lists-refusal (q .plan) (events-of q) (readings-of q) (q .length) ⌝ }
+fn body_refusal(plan: Plan, events: Events, readings: Readings, length: u8) -> u8
+    requires { ⌜ (events .count ≤ 12) × (readings .count ≤ 6) ⌝ }
+    ensures { λ r. ⌜ r ≡ lists-refusal plan (take (2 * events .count) (events .bytes)) (take (3 * readings .count) (readings .bytes)) length ⌝ }
 {
-    let events = q.events.bytes;
-    let readings = q.readings.bytes;
-    let n = 2 * wide(q.events.count);
-    let m = 3 * wide(q.readings.count);
-    lists_refusal(q.plan, &events[..n], &readings[..m], q.length)
+    let listed = events.bytes;
+    let read = readings.bytes;
+    let n = 2 * wide(events.count);
+    let m = 3 * wide(readings.count);
+    lists_refusal(plan, &listed[..n], &read[..m], length)
+}
+
+// The refusal of the question that these make.
+pub(crate) fn parts_refusal(
+    plan: Plan,
+    situation: Situation,
+    events: Events,
+    readings: Readings,
+    length: u8,
+) -> u8
+    ensures { λ r. ⌜ r ≡ refusalOf (record { plan = plan; situation = situation; events = events; readings = readings; length = length }) ⌝ }
+{
+    if !counts_in_range(events.count, readings.count) {
+        return NO_FORM;
+    }
+    let refusal = judged(plan, situation);
+    if refusal != ACCEPTED {
+        return refusal;
+    }
+    body_refusal(plan, events, readings, length)
 }
 
 pub fn refusal_of(q: Question) -> u8
     ensures { λ r. ⌜ r ≡ refusalOf q ⌝ }
 {
-    if !counts_in_range(q.events.count, q.readings.count) {
-        return NO_FORM;
-    }
-    let refusal = judged(q.plan, q.situation);
-    if refusal != ACCEPTED {
-        return refusal;
-    }
-    body_refusal(q)
+    parts_refusal(q.plan, q.situation, q.events, q.readings, q.length)
 }

@@ -1,9 +1,10 @@
 // Bytes, read as a question: five records, each after its mark, and then the end.
 ghost use mathlib.Core.Path.{_≡_};
-ghost use Rattle.paper.specs.Read.{zeros, refused, answered, readOf};
-use super::judge::refusal_of;
+ghost use Rattle.paper.specs.Read.{zeros, refused, readOf};
+use super::judge::parts_refusal;
 use super::question::Question;
 use block::line::Plan;
+use block::refused::ACCEPTED;
 use block::refused::NO_FORM;
 use block::situation::Annulment;
 use block::situation::Orientation;
@@ -91,55 +92,59 @@ fn refused(number: u8) -> Read
     }
 }
 
-fn answered(q: Question) -> Read
-    ensures { λ r. ⌜ r ≡ answered q ⌝ }
-{
-    let refusal = refusal_of(q);
-    if refusal == 0 {
-        return Read {
-            refusal: 0,
-            question: q,
-        };
-    }
-    refused(refusal)
-}
-
 pub fn read_question(bytes: &[u8]) -> Read
     ensures { λ r. ⌜ r ≡ readOf (now (bytes .entry)) ⌝ }
 {
     let lb = read_plan(bytes);
+    if lb.used < 1 {
+        return refused(NO_FORM);
+    }
     let at = lb.used;
     let after_lb = &bytes[at..];
     let si = read_situation(after_lb);
+    if si.used < 1 {
+        return refused(NO_FORM);
+    }
     let at = si.used;
     let after_si = &after_lb[at..];
     let ev = read_events(after_si);
+    if ev.used < 1 {
+        return refused(NO_FORM);
+    }
     let at = ev.used;
     let after_ev = &after_si[at..];
     let rd = read_readings(after_ev);
+    if rd.used < 1 {
+        return refused(NO_FORM);
+    }
     let at = rd.used;
     let after_rd = &after_ev[at..];
     let ln = read_length(after_rd);
+    if ln.used < 1 {
+        return refused(NO_FORM);
+    }
     let at = ln.used;
     let after_ln = &after_rd[at..];
-    let there = (1 <= lb.used)
-        & (1 <= si.used)
-        & (1 <= ev.used)
-        & (1 <= rd.used)
-        & (1 <= ln.used)
-        & (after_ln.len() == 0);
-    if there {
-        let plan = lb.plan;
-        let situation = si.situation;
-        let events = ev.events;
-        let readings = rd.readings;
-        return answered(Question {
-            plan,
-            situation,
-            events,
-            readings,
-            length: ln.length,
-        });
+    if after_ln.len() != 0 {
+        return refused(NO_FORM);
     }
-    refused(NO_FORM)
+    let plan = lb.plan;
+    let situation = si.situation;
+    let refusal = parts_refusal(plan, situation, ev.events, rd.readings, ln.length);
+    if refusal != ACCEPTED {
+        return refused(refusal);
+    }
+    let events = ev.events;
+    let readings = rd.readings;
+    let question = Question {
+        plan,
+        situation,
+        events,
+        readings,
+        length: ln.length,
+    };
+    Read {
+        refusal: 0,
+        question,
+    }
 }

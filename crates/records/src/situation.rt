@@ -75,23 +75,27 @@ fn second_byte(sections: u64) -> u8
     (sections / 2 / 256 % 256) as u8
 }
 
+// The first eight bytes, then the others.
 fn codes_in_range(body: &[u8]) -> bool
     requires { ⌜ 19 ≤ length (now body) ⌝ }
     ensures { λ r. ⌜ r ≡ codes-in-range (now (body .entry)) ⌝ }
 {
-    (body[0] <= 1)
+    let first = (body[0] <= 1)
         & (body[1] <= 2)
         & (body[2] <= 2)
         & (body[3] <= 2)
         & (body[4] <= 2)
         & (body[5] <= 2)
         & (body[6] <= 2)
-        & (body[7] <= 1)
-        & (body[8] <= 1)
-        & (body[9] <= 2)
-        & (body[10] <= 3)
-        & (body[11] <= 3)
-        & (body[12] <= 3)
+        & (body[7] <= 1);
+    if first {
+        return (body[8] <= 1)
+            & (body[9] <= 2)
+            & (body[10] <= 3)
+            & (body[11] <= 3)
+            & (body[12] <= 3);
+    }
+    false
 }
 
 fn station_a(body: &[u8]) -> Station

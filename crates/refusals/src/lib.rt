@@ -6,6 +6,7 @@ ghost use Rattle.sections.specs.Words.{if_then_else_};
 ghost use Rattle.block.specs.Checks.{refusal};
 ghost use Rattle.refusals.specs.InOrder.{check};
 ghost use Rattle.block.specs.Situation.{line-free};
+ghost use Rattle.packed.specs.Packed.{unpacked};
 ghost use Rattle.block.specs.Events.{sobb, cobb, afbli, afble, dafbl, bilc, bslg, exit-normal, exit-special, exit-released, dilc, bslg-off, reminder, reminder-off, entry, entry-released, link-lost, link-restored, occupied, freed, bslb, bslb-off};
 use block::line::Direction;
 use block::refused::ALREADY;
@@ -18,7 +19,17 @@ use block::refused::NOT_FREE;
 use block::refused::ORIENTED;
 use block::refused::PENDING;
 use block::refused::REMINDER;
-use block::situation::Situation;
+use packed::marks::annulled;
+use packed::marks::asks;
+use packed::marks::bilc;
+use packed::marks::bslg;
+use packed::marks::entry;
+use packed::marks::is_in;
+use packed::marks::is_out;
+use packed::marks::reminder;
+use packed::marks::routed;
+use packed::marks::under_afble;
+use packed::situation::Situation;
 use sections::has;
 
 // What the checks so far refuse stays refused; else n where this one fails.
@@ -42,173 +53,164 @@ fn refuse(n: u8, failed: bool, rest: u8) -> u8
 }
 
 pub fn sobb_refusal(x: Situation) -> u8
-    ensures { λ r. ⌜ r ≡ refusal (sobb x) ⌝ }
+    ensures { λ r. ⌜ r ≡ refusal (sobb (unpacked x)) ⌝ }
 {
-    let own = x.own;
-    let pending = x.pending.own | x.pending.other;
-    let r = check(0, ANNULLED, own.annulled());
+    let pending = asks(x.own) | asks(x.other);
+    let r = check(0, ANNULLED, annulled(x.own));
     let r = check(r, LINK_DOWN, !x.link);
     let r = check(r, PENDING, pending);
     let r = check(r, EXIT_ROUTE, x.exits());
-    check(r, ORIENTED, own.orientation.out)
+    check(r, ORIENTED, is_out(x.own))
 }
 
 pub fn cobb_refusal(x: Situation) -> u8
-    ensures { λ r. ⌜ r ≡ refusal (cobb x) ⌝ }
+    ensures { λ r. ⌜ r ≡ refusal (cobb (unpacked x)) ⌝ }
 {
-    let own = x.own;
-    let r = check(0, ANNULLED, own.annulled());
+    let r = check(0, ANNULLED, annulled(x.own));
     let r = check(r, LINK_DOWN, !x.link);
-    let r = check(r, PENDING, !x.pending.other);
+    let r = check(r, PENDING, !asks(x.other));
     check(r, EXIT_ROUTE, x.exits())
 }
 
 pub fn afbli_refusal(x: Situation) -> u8
-    ensures { λ r. ⌜ r ≡ refusal (afbli x) ⌝ }
+    ensures { λ r. ⌜ r ≡ refusal (afbli (unpacked x)) ⌝ }
 {
-    let own = x.own;
-    let r = check(0, ANNULLED, own.annulled());
-    let r = check(r, PENDING, x.pending.own);
-    check(r, EXIT_ROUTE, own.routed())
+    let r = check(0, ANNULLED, annulled(x.own));
+    let r = check(r, PENDING, asks(x.own));
+    check(r, EXIT_ROUTE, routed(x.own))
 }
 
 pub fn afble_refusal(x: Situation) -> u8
-    ensures { λ r. ⌜ r ≡ refusal (afble x) ⌝ }
+    ensures { λ r. ⌜ r ≡ refusal (afble (unpacked x)) ⌝ }
 {
     let r = afbli_refusal(x);
-    check(r, ENTRY_ROUTE, x.own.entry)
+    check(r, ENTRY_ROUTE, entry(x.own))
 }
 
 pub fn dafbl_refusal(x: Situation) -> u8
-    ensures { λ r. ⌜ r ≡ refusal (dafbl x) ⌝ }
+    ensures { λ r. ⌜ r ≡ refusal (dafbl (unpacked x)) ⌝ }
 {
-    let own = x.own;
-    check(0, ALREADY, !own.annulled())
+    check(0, ALREADY, !annulled(x.own))
 }
 
 pub fn bilc_refusal(x: Situation) -> u8
-    ensures { λ r. ⌜ r ≡ refusal (bilc x) ⌝ }
+    ensures { λ r. ⌜ r ≡ refusal (bilc (unpacked x)) ⌝ }
 {
-    let own = x.own;
-    let r = check(0, ALREADY, own.bilc);
-    check(r, EXIT_ROUTE, own.routed())
+    let r = check(0, ALREADY, bilc(x.own));
+    check(r, EXIT_ROUTE, routed(x.own))
 }
 
 pub fn dilc_refusal(x: Situation) -> u8
-    ensures { λ r. ⌜ r ≡ refusal (dilc x) ⌝ }
+    ensures { λ r. ⌜ r ≡ refusal (dilc (unpacked x)) ⌝ }
 {
-    refuse(ALREADY, !x.own.bilc, 0)
+    refuse(ALREADY, !bilc(x.own), 0)
 }
 
 pub fn bslg_refusal(x: Situation) -> u8
-    ensures { λ r. ⌜ r ≡ refusal (bslg x) ⌝ }
+    ensures { λ r. ⌜ r ≡ refusal (bslg (unpacked x)) ⌝ }
 {
-    let own = x.own;
-    let r = check(0, ALREADY, own.bslg);
-    check(r, ANNULLED, own.annulled())
+    let r = check(0, ALREADY, bslg(x.own));
+    check(r, ANNULLED, annulled(x.own))
 }
 
 pub fn bslg_off_refusal(x: Situation) -> u8
-    ensures { λ r. ⌜ r ≡ refusal (bslg-off x) ⌝ }
+    ensures { λ r. ⌜ r ≡ refusal (bslg-off (unpacked x)) ⌝ }
 {
-    refuse(ALREADY, !x.own.bslg, 0)
+    refuse(ALREADY, !bslg(x.own), 0)
 }
 
 pub fn bslb_refusal(x: Situation, d: Direction, k: u8) -> u8
-    ensures { λ r. ⌜ r ≡ refusal (bslb x d k) ⌝ }
+    ensures { λ r. ⌜ r ≡ refusal (bslb (unpacked x) d k) ⌝ }
 {
     refuse(ALREADY, has(x.held(d), k as u16), 0)
 }
 
 pub fn bslb_off_refusal(x: Situation, d: Direction, k: u8) -> u8
-    ensures { λ r. ⌜ r ≡ refusal (bslb-off x d k) ⌝ }
+    ensures { λ r. ⌜ r ≡ refusal (bslb-off (unpacked x) d k) ⌝ }
 {
     refuse(ALREADY, !has(x.held(d), k as u16), 0)
 }
 
 pub fn reminder_refusal(x: Situation) -> u8
-    ensures { λ r. ⌜ r ≡ refusal (reminder x) ⌝ }
+    ensures { λ r. ⌜ r ≡ refusal (reminder (unpacked x)) ⌝ }
 {
-    refuse(ALREADY, x.own.reminder, 0)
+    refuse(ALREADY, reminder(x.own), 0)
 }
 
 pub fn reminder_off_refusal(x: Situation) -> u8
-    ensures { λ r. ⌜ r ≡ refusal (reminder-off x) ⌝ }
+    ensures { λ r. ⌜ r ≡ refusal (reminder-off (unpacked x)) ⌝ }
 {
-    refuse(ALREADY, !x.own.reminder, 0)
+    refuse(ALREADY, !reminder(x.own), 0)
 }
 
 pub fn exit_normal_refusal(x: Situation) -> u8
-    ensures { λ r. ⌜ r ≡ refusal (exit-normal x (line-free x)) ⌝ }
+    ensures { λ r. ⌜ r ≡ refusal (exit-normal (unpacked x) (line-free (unpacked x))) ⌝ }
 {
-    let own = x.own;
-    let none = !(own.orientation.out | own.orientation.inward);
-    let busy = own.orientation.inward & !x.line_free();
-    let r = check(0, ALREADY, own.routed());
-    let r = check(r, BILC, own.bilc);
-    let r = check(r, ANNULLED, own.annulled());
-    let r = check(r, REMINDER, own.reminder);
+    let none = !(is_out(x.own) | is_in(x.own));
+    let busy = is_in(x.own) & !x.line_free();
+    let r = check(0, ALREADY, routed(x.own));
+    let r = check(r, BILC, bilc(x.own));
+    let r = check(r, ANNULLED, annulled(x.own));
+    let r = check(r, REMINDER, reminder(x.own));
     let r = check(r, LINK_DOWN, !x.link);
     let r = check(r, ORIENTED, none);
     check(r, NOT_FREE, busy)
 }
 
 pub fn exit_special_refusal(x: Situation) -> u8
-    ensures { λ r. ⌜ r ≡ refusal (exit-special x (line-free x)) ⌝ }
+    ensures { λ r. ⌜ r ≡ refusal (exit-special (unpacked x) (line-free (unpacked x))) ⌝ }
 {
-    let own = x.own;
-    let none = !(own.orientation.out | own.orientation.inward);
-    let busy = own.orientation.inward & !x.line_free();
-    let r = check(0, ALREADY, own.routed());
-    let r = check(r, BILC, own.bilc);
-    if own.annulment.afble {
+    let none = !(is_out(x.own) | is_in(x.own));
+    let busy = is_in(x.own) & !x.line_free();
+    let r = check(0, ALREADY, routed(x.own));
+    let r = check(r, BILC, bilc(x.own));
+    if under_afble(x.own) {
         return r;
     }
-    let r = check(r, ANNULLED, own.annulled());
+    let r = check(r, ANNULLED, annulled(x.own));
     let r = check(r, LINK_DOWN, !x.link);
     let r = check(r, ORIENTED, none);
     check(r, NOT_FREE, busy)
 }
 
 pub fn exit_released_refusal(x: Situation) -> u8
-    ensures { λ r. ⌜ r ≡ refusal (exit-released x) ⌝ }
+    ensures { λ r. ⌜ r ≡ refusal (exit-released (unpacked x)) ⌝ }
 {
-    let own = x.own;
-    check(0, ALREADY, !own.routed())
+    check(0, ALREADY, !routed(x.own))
 }
 
 pub fn entry_refusal(x: Situation) -> u8
-    ensures { λ r. ⌜ r ≡ refusal (entry x) ⌝ }
+    ensures { λ r. ⌜ r ≡ refusal (entry (unpacked x)) ⌝ }
 {
-    refuse(ALREADY, x.own.entry, 0)
+    refuse(ALREADY, entry(x.own), 0)
 }
 
 pub fn entry_released_refusal(x: Situation) -> u8
-    ensures { λ r. ⌜ r ≡ refusal (entry-released x) ⌝ }
+    ensures { λ r. ⌜ r ≡ refusal (entry-released (unpacked x)) ⌝ }
 {
-    refuse(ALREADY, !x.own.entry, 0)
+    refuse(ALREADY, !entry(x.own), 0)
 }
 
 pub fn occupied_refusal(x: Situation, k: u8) -> u8
-    ensures { λ r. ⌜ ((expected first : Bool) → r ≡ refusal (occupied x (line-free x) k expected first)) ⌝ }
+    ensures { λ r. ⌜ ((expected first : Bool) → r ≡ refusal (occupied (unpacked x) (line-free (unpacked x)) k expected first)) ⌝ }
 {
     refuse(ALREADY, has(x.occupied, k as u16), 0)
 }
 
 pub fn freed_refusal(x: Situation, k: u8) -> u8
-    ensures { λ r. ⌜ r ≡ refusal (freed x k) ⌝ }
+    ensures { λ r. ⌜ r ≡ refusal (freed (unpacked x) k) ⌝ }
 {
     refuse(ALREADY, !has(x.occupied, k as u16), 0)
 }
 
 pub fn link_lost_refusal(x: Situation) -> u8
-    ensures { λ r. ⌜ r ≡ refusal (link-lost x) ⌝ }
+    ensures { λ r. ⌜ r ≡ refusal (link-lost (unpacked x)) ⌝ }
 {
     refuse(ALREADY, !x.link, 0)
 }
 
 pub fn link_restored_refusal(x: Situation) -> u8
-    ensures { λ r. ⌜ r ≡ refusal (link-restored x) ⌝ }
+    ensures { λ r. ⌜ r ≡ refusal (link-restored (unpacked x)) ⌝ }
 {
     refuse(ALREADY, x.link, 0)
 }

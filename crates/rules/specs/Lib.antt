@@ -1,2 +1,3 @@
 pub mod RulesOf
 pub mod Told
+pub mod Judged

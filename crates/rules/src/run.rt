@@ -5,11 +5,14 @@ ghost use lib.ListN.{length};
 ghost use Rattle.keylaws.specs.Key.{Permitted};
 ghost use Rattle.keylaws.specs.Run.{run};
 ghost use Rattle.rules.specs.RulesOf.{rulesOf};
+ghost use Rattle.rules.specs.Judged.{Judged};
 ghost use Rattle.rules.specs.Told.{outcome};
 use super::tries::all_hold;
-use super::tries::try_event;
+use super::tries::reached_at;
+use super::tries::refusal_at;
 use block::line::Plan;
 use block::situation::Situation;
+use packed::situation::pack;
 
 // The place of the first refused event within the slot, from 1, and its refusal, or 0, 0 and whether all readings hold.
 pub struct Told {
@@ -27,9 +30,10 @@ pub fn run_places(
     places: &[u8],
 ) -> Told
     requires { ⌜ (length (now places) ≤ 5) × Permitted (length (now events) / 2) (now places) ⌝ }
+    requires { ⌜ Judged plan (now events) (now readings) ⌝ }
     ensures { λ r. ⌜ outcome r ≡ run (rulesOf plan (now (events .entry)) (now (readings .entry))) start (now (places .entry)) ⌝ }
 {
-    let mut x = start;
+    let mut x = pack(start);
     let mut i = 0;
     let told = loop {
         if i == places.len() {
@@ -40,15 +44,15 @@ pub fn run_places(
             };
         }
         let place = places[i] as usize;
-        let tried = try_event(plan, x, events, place);
-        if tried.refusal != 0 {
+        let refusal = refusal_at(plan, x, events, place);
+        if refusal != 0 {
             break Told {
                 place: (i + 1) as u8,
-                refusal: tried.refusal,
+                refusal,
                 holds: false,
             };
         }
-        x = tried.next;
+        x = reached_at(plan, x, events, place);
         i += 1;
     };
     told

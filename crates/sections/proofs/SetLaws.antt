@@ -19,21 +19,21 @@ pub only-is : (k : ℕ) → k < 64 → only k ≡ 2 ^ k
 only-is k h = rw (lt-ltb k 64 h)
 
 -- what holds of 0 and of 1 holds of each bit
-bit-cases : (P : ℕ → Type 0) → P 0 → P 1 → (n : ℕ) → n < 2 → P n
+pub bit-cases : (P : ℕ → Type 0) → P 0 → P 1 → (n : ℕ) → n < 2 → P n
 bit-cases P a b zero h = a
 bit-cases P a b (suc zero) h = b
 bit-cases P a b (suc (suc n)) h = absurd (omega arith)
 
-two-pos : 0 < 2
+pub two-pos : 0 < 2
 two-pos = pow-pos 1
 
-or-bit : (j a b : ℕ) → bitOr a b / 2 ^ j % 2 ≡ bitOr (a / 2 ^ j % 2) (b / 2 ^ j % 2)
+pub or-bit : (j a b : ℕ) → bitOr a b / 2 ^ j % 2 ≡ bitOr (a / 2 ^ j % 2) (b / 2 ^ j % 2)
 or-bit j a b = ap (λ (n : ℕ). n % 2) (or-shr a b j) ∙ or-mod (a / 2 ^ j) (b / 2 ^ j) 1
 
-and-bit : (j a b : ℕ) → bitAnd a b / 2 ^ j % 2 ≡ bitAnd (a / 2 ^ j % 2) (b / 2 ^ j % 2)
+pub and-bit : (j a b : ℕ) → bitAnd a b / 2 ^ j % 2 ≡ bitAnd (a / 2 ^ j % 2) (b / 2 ^ j % 2)
 and-bit j a b = ap (λ (n : ℕ). n % 2) (and-shr a b j) ∙ and-mod (a / 2 ^ j) (b / 2 ^ j) 1
 
-xor-bit : (j a b : ℕ) → bitXor a b / 2 ^ j % 2 ≡ bitXor (a / 2 ^ j % 2) (b / 2 ^ j % 2)
+pub xor-bit : (j a b : ℕ) → bitXor a b / 2 ^ j % 2 ≡ bitXor (a / 2 ^ j % 2) (b / 2 ^ j % 2)
 xor-bit j a b = ap (λ (n : ℕ). n % 2) (xor-shr a b j) ∙ xor-mod (a / 2 ^ j) (b / 2 ^ j) 1
 
 pow-over : (i j : ℕ) → i < j → 2 ^ i / 2 ^ j ≡ 0
@@ -45,7 +45,7 @@ pow-split i j h = ap (λ (n : ℕ). 2 ^ n) (omega arith) ∙ pow-add 2 (i - j) j
 pow-mod : (i j : ℕ) → j ≤ i → 2 ^ i % 2 ^ j ≡ 0
 pow-mod i j h = ap (λ (n : ℕ). n % 2 ^ j) (pow-split i j h) ∙ mul-mod-left (2 ^ (i - j)) (2 ^ j)
 
-pow-bit-same : (i : ℕ) → 2 ^ i / 2 ^ i % 2 ≡ 1
+pub pow-bit-same : (i : ℕ) → 2 ^ i / 2 ^ i % 2 ≡ 1
 pow-bit-same i = ap (λ (n : ℕ). n % 2) (div-self (pow-pos i))
 
 pow-bit-under : (i j : ℕ) → j < i → 2 ^ i / 2 ^ j % 2 ≡ 0
@@ -54,7 +54,7 @@ pow-bit-under i j h =
     ∙ ap (λ (n : ℕ). n % 2) (mul-div-cancel (2 ^ (i - j)) (pow-pos j))
     ∙ pow-mod (i - j) 1 (omega arith)
 
-pow-bit-other : (i j : ℕ) → (i ≡ j → ⊥) → 2 ^ i / 2 ^ j % 2 ≡ 0
+pub pow-bit-other : (i j : ℕ) → (i ≡ j → ⊥) → 2 ^ i / 2 ^ j % 2 ≡ 0
 pow-bit-other i j h = go (decLt i j)
   where
     go : Dec (i < j) → 2 ^ i / 2 ^ j % 2 ≡ 0

@@ -1,6 +1,8 @@
 // Sets of sections, each in one word: bit k of the word for section k.
 ghost use mathlib.Core.Path.{_≡_};
-ghost use Rattle.sections.specs.Sections.{_∈_, only, _with-section_, _without-section_, sections-up-to};
+ghost use Prim.Native.Nat.{_<_};
+ghost use Rattle.sections.specs.Words.{if_then_else_};
+ghost use Rattle.sections.specs.Sections.{none, _∈_, only, _with-section_, _without-section_, sections-up-to, both, either, _minus_, up-to, one-down, one-up};
 
 pub fn has(m: u64, k: u16) -> bool
     ensures { λ r. ⌜ r ≡ (k ∈ m) ⌝ }
@@ -41,4 +43,63 @@ pub fn sections_up_to(m: u64, n: u8) -> bool
         return !zero & (m >> (n + 1) == 0);
     }
     !zero
+}
+
+// The section k alone, one that a word has a bit for.
+pub fn single(k: u8) -> u64
+    requires { ⌜ k < 64 ⌝ }
+    ensures { λ r. ⌜ r ≡ only k ⌝ }
+{
+    1 << k
+}
+
+pub fn both(a: u64, b: u64) -> u64
+    ensures { λ r. ⌜ r ≡ both a b ⌝ }
+{
+    a & b
+}
+
+pub fn either(a: u64, b: u64) -> u64
+    ensures { λ r. ⌜ r ≡ either a b ⌝ }
+{
+    a | b
+}
+
+// The sections of a that are not in b.
+pub fn minus(a: u64, b: u64) -> u64
+    ensures { λ r. ⌜ r ≡ a minus b ⌝ }
+{
+    a ^ (a & b)
+}
+
+// The sections 1 to n.
+pub fn up_to(n: u8) -> u64
+    requires { ⌜ n < 63 ⌝ }
+    ensures { λ r. ⌜ r ≡ up-to n ⌝ }
+{
+    (2 << n) - 2
+}
+
+// Each section's number one less.
+pub fn one_down(m: u64) -> u64
+    ensures { λ r. ⌜ r ≡ one-down m ⌝ }
+{
+    m >> 1
+}
+
+// Each section's number one more.
+pub fn one_up(m: u64) -> u64
+    ensures { λ r. ⌜ r ≡ one-up m ⌝ }
+{
+    m << 1
+}
+
+// m if the test holds, else no section.
+pub fn given(test: bool, m: u64) -> u64
+    ensures { λ r. ⌜ r ≡ (if test then m else none) ⌝ }
+{
+    if test {
+        return m;
+    }
+    0
 }

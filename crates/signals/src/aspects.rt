@@ -1,6 +1,7 @@
 // Aspects: 0 red, 1 yellow, 2 green. Whether a signal is red is local, so an aspect looks at two signals only. The situation is kept
 // as A sees it.
 ghost use mathlib.Core.Path.{_≡_};
+ghost use Rattle.packed.specs.Packed.{unpacked};
 ghost use Rattle.signals.specs.Aspects.{runs, block-open, exit-open, is-last, not-red, next-not-red, aspect-at, aspect};
 use block::line::Direction;
 use block::line::Name;
@@ -8,7 +9,11 @@ use block::line::Plan;
 use block::line::direction_of;
 use block::line::section_of;
 use block::situation::Orientation;
-use block::situation::Situation;
+use packed::marks::area_direction;
+use packed::marks::bslg;
+use packed::marks::entry;
+use packed::marks::routed;
+use packed::situation::Situation;
 use sections::has;
 
 pub const RED: u8 = 0;
@@ -34,31 +39,31 @@ fn runs(s: Name, o: Orientation, d: Direction) -> bool
 }
 
 fn block_open(plan: Plan, x: Situation, d: Direction, k: u16) -> bool
-    ensures { λ r. ⌜ r ≡ block-open plan x d k ⌝ }
+    ensures { λ r. ⌜ r ≡ block-open plan (unpacked x) d k ⌝ }
 {
     let s = plan.owner(k);
-    let station = x.station(s);
-    let way = station.area_direction();
+    let marks = x.marks(s);
+    let way = area_direction(marks);
     let ours = runs(s, way, d);
     let occupied = has(x.occupied, k);
     let held = x.held(d);
     let stopped = has(held, k);
-    ours & !occupied & !stopped & !station.bslg
+    ours & !occupied & !stopped & !bslg(marks)
 }
 
 fn exit_open(plan: Plan, x: Situation, d: Direction, k: u16) -> bool
-    ensures { λ r. ⌜ r ≡ exit-open plan x d k ⌝ }
+    ensures { λ r. ⌜ r ≡ exit-open plan (unpacked x) d k ⌝ }
 {
     let s = d.entrance();
-    let station = x.station(s);
-    let routed = station.routed();
-    let way = station.area_direction();
+    let marks = x.marks(s);
+    let routed = routed(marks);
+    let way = area_direction(marks);
     let occupied = has(x.occupied, k);
     routed & way.out & !occupied
 }
 
 fn not_red(plan: Plan, x: Situation, d: Direction, k: u16) -> bool
-    ensures { λ r. ⌜ r ≡ not-red plan x d k ⌝ }
+    ensures { λ r. ⌜ r ≡ not-red plan (unpacked x) d k ⌝ }
 {
     if plan.is_exit(d, k) {
         return exit_open(plan, x, d, k);
@@ -67,7 +72,7 @@ fn not_red(plan: Plan, x: Situation, d: Direction, k: u16) -> bool
 }
 
 fn is_last(plan: Plan, x: Situation, d: Direction, k: u16) -> bool
-    ensures { λ r. ⌜ r ≡ is-last plan x d k ⌝ }
+    ensures { λ r. ⌜ r ≡ is-last plan (unpacked x) d k ⌝ }
 {
     let s = d.terminus();
     plan.is_first(s, k)
@@ -75,12 +80,12 @@ fn is_last(plan: Plan, x: Situation, d: Direction, k: u16) -> bool
 
 // The next after the last is the entry signal. A next signal across the frontier is read as red when link is down.
 fn next_not_red(plan: Plan, x: Situation, d: Direction, k: u8) -> bool
-    ensures { λ r. ⌜ r ≡ next-not-red plan x d k ⌝ }
+    ensures { λ r. ⌜ r ≡ next-not-red plan (unpacked x) d k ⌝ }
 {
     if is_last(plan, x, d, k as u16) {
         let s = d.terminus();
-        let station = x.station(s);
-        return station.entry;
+        let marks = x.marks(s);
+        return entry(marks);
     }
     let next = d.after(k);
     let lit = not_red(plan, x, d, next);
@@ -89,7 +94,7 @@ fn next_not_red(plan: Plan, x: Situation, d: Direction, k: u8) -> bool
 }
 
 fn aspect_at(plan: Plan, x: Situation, d: Direction, k: u8) -> u8
-    ensures { λ r. ⌜ r ≡ aspect-at plan x d k ⌝ }
+    ensures { λ r. ⌜ r ≡ aspect-at plan (unpacked x) d k ⌝ }
 {
     if not_red(plan, x, d, k as u16) {
         if next_not_red(plan, x, d, k) {
@@ -102,7 +107,7 @@ fn aspect_at(plan: Plan, x: Situation, d: Direction, k: u8) -> u8
 
 // The aspect of a signal, for a plan and a situation that are judged already.
 pub fn aspect_of(plan: Plan, x: Situation, signal: u8) -> u8
-    ensures { λ r. ⌜ r ≡ aspect plan x signal ⌝ }
+    ensures { λ r. ⌜ r ≡ aspect plan (unpacked x) signal ⌝ }
 {
     let d = direction_of(signal);
     let k = section_of(signal);

@@ -14,18 +14,23 @@ use Rattle.keylaws.specs.Walk.{tries, walk}
 use Rattle.keylaws.specs.Sheet.{grows, put}
 use Rattle.keylaws.proofs.WalkSteps.{try-none, try-refused, try-full, try-on, node-leaf, node-full, node-on}
 use Rattle.block.specs.declared.situation.Situation.{Situation}
-use Rattle.events.specs.declared.Outcome.{Outcome}
-use Rattle.rules.specs.RulesOf.{rulesOf}
+use Rattle.packed.specs.Packed.{unpacked}
+use Rattle.rules.specs.RulesOf.{tried, rulesOf}
+use denote.Ref.{now}
+use Rattle.engine.specs.Walked.{explored}
 use Rattle.engine.specs.declared.Ask.{Ask}
+use Rattle.engine.specs.declared.Node.{Node}
 use Rattle.engine.proofs.attempt.Reads as attempt
 use Rattle.engine.proofs.attempt.Kinds as attempt-kinds
 use Rattle.engine.proofs.+attempt+explore.Lts-attempt as attempt-lts
 use Rattle.engine.proofs.explore.Reads as explore
 use Rattle.engine.proofs.explore.Kinds as explore-kinds
 use Rattle.engine.proofs.+attempt+explore.Lts-explore as explore-lts
+use Rattle.engine.proofs.last_answer.Reads as last-answer-reads
 use Rattle.engine.proofs.own_answer.Reads as own-answer-reads
 use Rattle.engine.proofs.start_of.Reads as start-of-reads
-use Rattle.rules.proofs.tries.try_event.Reads as try-event-reads
+use Rattle.rules.proofs.tries.reached_at.Reads as reached-at-reads
+use Rattle.rules.proofs.tries.refusal_at.Reads as refusal-at-reads
 use Rattle.slots.proofs.room.grow_slot.Reads as grow-slot-reads
 use Rattle.engine.proofs.+attempt+explore.{statement}
 use Rattle.engine.proofs.+attempt+explore.Tie.{close}
@@ -49,7 +54,7 @@ abbrev explore-below : ℕ → In 3 explore-kinds.ps
 explore-below t = and 3 explore-kinds.ps (falls 3 explore-kinds.ps _<_ μ-explore t) explore.Pre
 
 abbrev attempt-calls : ℕ → attempt-lts.Claims
-attempt-calls t = (start-of-reads.Asked, start-of-reads.Learnt, try-event-reads.Asked, try-event-reads.Learnt, grow-slot-reads.Asked, grow-slot-reads.Learnt, explore-below t, explore.Post)
+attempt-calls t = (start-of-reads.Asked, start-of-reads.Learnt, refusal-at-reads.Asked, refusal-at-reads.Learnt, grow-slot-reads.Asked, grow-slot-reads.Learnt, last-answer-reads.Asked, last-answer-reads.Learnt, reached-at-reads.Asked, reached-at-reads.Learnt, explore-below t, explore.Post)
 
 abbrev explore-calls : ℕ → explore-lts.Claims
 explore-calls t = (own-answer-reads.Asked, own-answer-reads.Learnt, attempt-below t, attempt.Post)
@@ -65,7 +70,7 @@ attempt-Inv-loop x ask events readings room₀ n slot depth left on₀ place₀ 
     (1 ≤ place)
     × (6 * count ≤ length room)
     × (length room ≡ length room₀)
-    × (written x ask events readings slot depth left on place (handed room count false) ≡ written x ask events readings slot depth left on₀ place₀ (handed room₀ count₀ false))
+    × (written (unpacked x) ask events readings slot depth left on place (handed room count false) ≡ written (unpacked x) ask events readings slot depth left on₀ place₀ (handed room₀ count₀ false))
 
 abbrev attempt-μ-loop : attempt-lts.MeasureT-loop
 attempt-μ-loop x ask events readings room₀ n slot depth left on₀ place₀ count₀ room on place count = n + 1 - place
@@ -76,48 +81,83 @@ attempt-start-of-requires t c κs = omega arith
 attempt-loop-holds : (t : ℕ) → attempt-lts.Need-loop-holds (attempt-calls t) (attempt-at t) attempt.Post attempt-Inv-loop attempt-μ-loop
 attempt-loop-holds t c = (omega arith, omega arith, refl, refl)
 
-attempt-try-event-requires : (t : ℕ) → attempt-lts.Need-try-event-requires (attempt-calls t) (attempt-at t) attempt.Post attempt-Inv-loop attempt-μ-loop
-attempt-try-event-requires t c κs = omega arith
+attempt-refusal-at-requires : (t : ℕ) → attempt-lts.Need-refusal-at-requires (attempt-calls t) (attempt-at t) attempt.Post attempt-Inv-loop attempt-μ-loop
+attempt-refusal-at-requires t c κs = (omega arith, c .before .before .before .before .before .before .before .before .pre .1 .1 .1 .0)
 
 attempt-grow-slot-requires : (t : ℕ) → attempt-lts.Need-grow-slot-requires (attempt-calls t) (attempt-at t) attempt.Post attempt-Inv-loop attempt-μ-loop
-attempt-grow-slot-requires t c κs = omega (arith, c .before .before .before .before .before .before .before .before .before .before .before .pre)
+attempt-grow-slot-requires t c κs = omega (arith, c .before .before .before .before .before .before .before .before .before .before .pre)
 
-attempt-add-t22 : (t : ℕ) → attempt-lts.Need-add-t22 (attempt-calls t) (attempt-at t) attempt.Post attempt-Inv-loop attempt-μ-loop
-attempt-add-t22 t c = omega (arith, c .before .before .before .before .before .before .before .before .before .before .before .before .pre)
+attempt-add-t23 : (t : ℕ) → attempt-lts.Need-add-t23 (attempt-calls t) (attempt-at t) attempt.Post attempt-Inv-loop attempt-μ-loop
+attempt-add-t23 t c = omega (arith, c .before .before .before .before .before .before .before .before .before .before .before .pre)
 
-attempt-sub-t23 : (t : ℕ) → attempt-lts.Need-sub-t23 (attempt-calls t) (attempt-at t) attempt.Post attempt-Inv-loop attempt-μ-loop
-attempt-sub-t23 t c = omega (arith, c .before .before .before .before .before .before .before .before .before .before .before .before .pre)
+attempt-sub-t24 : (t : ℕ) → attempt-lts.Need-sub-t24 (attempt-calls t) (attempt-at t) attempt.Post attempt-Inv-loop attempt-μ-loop
+attempt-sub-t24 t c = omega (arith, c .before .before .before .before .before .before .before .before .before .before .before .pre)
+
+attempt-last-answer-requires : (t : ℕ) → attempt-lts.Need-last-answer-requires (attempt-calls t) (attempt-at t) attempt.Post attempt-Inv-loop attempt-μ-loop
+attempt-last-answer-requires t c κs =
+    let i = c .before .before .before in
+    (omega (arith, c .before .before .before .before .before .before .loop .inv .1), (omega arith, (sym (i .before .refusal-at .ensures) ∙ i .if1 .taken, c .before .before .before .before .before .before .before .before .before .before .before .before .before .pre .1 .1 .1 .1)))
+
+attempt-reached-at-requires : (t : ℕ) → attempt-lts.Need-reached-at-requires (attempt-calls t) (attempt-at t) attempt.Post attempt-Inv-loop attempt-μ-loop
+attempt-reached-at-requires t c κs =
+    let i = c .before .before in
+    (omega arith, sym (i .before .refusal-at .ensures) ∙ i .if1 .taken)
 
 attempt-explore-requires : (t : ℕ) → attempt-lts.Need-explore-requires (attempt-calls t) (attempt-at t) attempt.Post attempt-Inv-loop attempt-μ-loop
 attempt-explore-requires t c κs =
-    let l = c .before .before .before .before .before .before in
+    let l = c .before .before .before .before .before .before .before in
     let a = l .before .before .before .before .before .before .before in
-    omega (arith, a .pre, l .loop .inv .1)
+    (omega (arith, a .pre .0), (omega (arith, l .loop .inv .1), (omega (arith, a .pre .1 .1 .0), a .pre .1 .1 .1)))
 
 attempt-same-length : (t : ℕ) → attempt-lts.Need-same-length (attempt-calls t) (attempt-at t) attempt.Post attempt-Inv-loop attempt-μ-loop
-attempt-same-length t c = omega arith
+attempt-same-length t c =
+    let l = c .before .before .before .before .before .before .loop in
+    ⊎-elim (λ v. rw (v .5) (omega (arith, l .inv .2))) (λ v. rw (v .6) (omega (arith, l .inv .2))) (c .before .if2 .came)
 
 attempt-returns : (t : ℕ) → attempt-lts.Need-returns (attempt-calls t) (attempt-at t) attempt.Post attempt-Inv-loop attempt-μ-loop
 attempt-returns t c =
-    let e = c .before .before .before in
-    let g = e .before .before in
-    let r = g .before .before .before in
-    let l = r .before .before in
-    (rw (← l .before .start-of .ensures .0, ← l .before .start-of .ensures .1 .0) (try-full _ _ _ _ _ _ _ _ (r .try-event .result .next) (g .grow-slot .result) _ _ _ (r .before .loop-test .taken) (eq-eqb _ 0 (ap (λ (o : Outcome). o .refusal) (sym (r .try-event .ensures)) ∙ g .before .if1 .taken)) (ap (λ (o : Outcome). o .next) (r .try-event .ensures)) (g .grow-slot .ensures) (e .explore .ensures .0) (c .if2 .taken) ∙ l .loop .inv .3), e .explore .ensures .1)
+    let j = c .before .if2 in
+    let g = c .before .before in
+    let r = g .before .before in
+    let f = r .before .before in
+    let l = f .loop in
+    let a = c .before .before .before .before .before .before .before .before .before .before .before .before .before .args in
+    let y = tried (a .ask .plan) (now (a .events)) (unpacked (a .x)) (l .place) .next in
+    let node : Node = record { slot = g .grow-slot .result; depth = a .at .depth + 1; left = a .at .left - 1; on = l .on; count = l .count } in
+    let done : (handed (j .room) (j .part .count) (j .part .more) ≡ explored (a .ask) (now (a .events)) (now (a .readings)) y node (l .room))
+    × (6 * j .part .count ≤ length (j .room))
+    × (length (j .room) ≡ length (l .room)) =
+    ⊎-elim
+    (λ v. rw (v .5, v .6) (node-leaf _ _ _ _ _ _ _ _ _ _ (v .2 .ensures .0) _ (omega (arith, v .0 .taken)), v .2 .ensures .1, omega arith))
+    (λ v. rw (v .6, v .7) (v .3 .ensures .0 ∙ ap (λ (s : Situation). explored (a .ask) (now (a .events)) (now (a .readings)) s node (l .room)) (v .1 .ensures), v .3 .ensures .1, omega arith))
+    (j .came) in
+    (rw (← f .before .start-of .ensures .0, ← f .before .start-of .ensures .1 .0) (try-full _ _ _ _ _ _ _ _ y (g .grow-slot .result) _ _ _ (r .before .loop-test .taken) (eq-eqb _ 0 (sym (r .refusal-at .ensures) ∙ g .before .if1 .taken)) refl (g .grow-slot .ensures) (done .0) (c .if3 .taken) ∙ l .inv .3), done .1)
 
 attempt-add-place : (t : ℕ) → attempt-lts.Need-add-place (attempt-calls t) (attempt-at t) attempt.Post attempt-Inv-loop attempt-μ-loop
-attempt-add-place t c = omega (arith, c .before .before .before .before .before .before .before .before .before .before .before .pre)
+attempt-add-place t c = omega (arith, c .before .before .before .before .before .before .before .before .before .before .pre)
 
 attempt-loop-less : (t : ℕ) → attempt-lts.Need-loop-less (attempt-calls t) (attempt-at t) attempt.Post attempt-Inv-loop attempt-μ-loop
 attempt-loop-less t c = omega arith
 
 attempt-loop-again : (t : ℕ) → attempt-lts.Need-loop-again (attempt-calls t) (attempt-at t) attempt.Post attempt-Inv-loop attempt-μ-loop
 attempt-loop-again t c =
-    let r = c .before .before in
-    let l = r .before .before in
+    let r = c .before in
+    let l = r .before .before .loop in
+    let a = c .before .before .before .before .before .before .before .before .before .before .args in
+    let y = tried (a .ask .plan) (now (a .events)) (unpacked (a .x)) (l .place) .next in
     ⊎-elim
-    (λ w. (omega arith, rw (w .7, w .8) (w .3 .ensures .1), rw (w .7) (omega (arith, l .loop .inv .2)), rw (w .7, w .8) (try-on _ _ _ _ _ _ _ _ (r .try-event .result .next) (w .1 .result) _ _ _ (r .before .loop-test .taken) (eq-eqb _ 0 (ap (λ (o : Outcome). o .refusal) (sym (r .try-event .ensures)) ∙ w .0 .taken)) (ap (λ (o : Outcome). o .next) (r .try-event .ensures)) (w .1 .ensures) (w .3 .ensures .0) _ (w .6 .left) refl ∙ l .loop .inv .3)))
-    (λ w. (omega arith, rw (w .1, w .2) (l .loop .inv .1), rw (w .1) (l .loop .inv .2), rw (w .1, w .2) (try-refused _ _ _ _ _ _ _ _ _ (r .before .loop-test .taken) (ne-eqb _ 0 (λ z. w .0 .left (ap (λ (o : Outcome). o .refusal) (r .try-event .ensures) ∙ z))) refl ∙ l .loop .inv .3)))
+    (λ w.
+    let j = w .2 in
+    let node : Node = record { slot = w .1 .result; depth = a .at .depth + 1; left = a .at .left - 1; on = l .on; count = l .count } in
+    let done : (handed (j .room) (j .part .count) (j .part .more) ≡ explored (a .ask) (now (a .events)) (now (a .readings)) y node (l .room))
+    × (6 * j .part .count ≤ length (j .room))
+    × (length (j .room) ≡ length (l .room)) =
+    ⊎-elim
+    (λ v. rw (v .5, v .6) (node-leaf _ _ _ _ _ _ _ _ _ _ (v .2 .ensures .0) _ (omega (arith, v .0 .taken)), v .2 .ensures .1, omega arith))
+    (λ v. rw (v .6, v .7) (v .3 .ensures .0 ∙ ap (λ (s : Situation). explored (a .ask) (now (a .events)) (now (a .readings)) s node (l .room)) (v .1 .ensures), v .3 .ensures .1, omega arith))
+    (j .came) in
+    (omega arith, rw (w .4, w .5) (done .1), rw (w .4) (omega (arith, l .inv .2, done .2)), rw (w .4, w .5) (try-on _ _ _ _ _ _ _ _ y (w .1 .result) _ _ _ (r .before .loop-test .taken) (eq-eqb _ 0 (sym (r .refusal-at .ensures) ∙ w .0 .taken)) refl (w .1 .ensures) (done .0) _ (w .3 .left) refl ∙ l .inv .3)))
+    (λ w. (omega arith, rw (w .1, w .2) (l .inv .1), rw (w .1) (l .inv .2), rw (w .1, w .2) (try-refused _ _ _ _ _ _ _ _ _ (r .before .loop-test .taken) (ne-eqb _ 0 (λ z. w .0 .left (r .refusal-at .ensures ∙ z))) refl ∙ l .inv .3)))
     (c .if1 .came)
 
 attempt-same-length-2 : (t : ℕ) → attempt-lts.Need-same-length-2 (attempt-calls t) (attempt-at t) attempt.Post attempt-Inv-loop attempt-μ-loop
@@ -129,7 +169,9 @@ attempt-returns-2 t c =
     (rw (← l .before .start-of .ensures .0, ← l .before .start-of .ensures .1 .0) (try-none _ _ _ _ _ _ _ _ (c .loop-test .left) ∙ l .loop .inv .3), l .loop .inv .1)
 
 explore-own-answer-requires : (t : ℕ) → explore-lts.Need-own-answer-requires (explore-calls t) (explore-at t) explore.Post
-explore-own-answer-requires t c κs = omega arith
+explore-own-answer-requires t c κs =
+    let a = c .before .before .before .before in
+    (omega (arith, a .pre .1 .0), a .pre .1 .1 .1 .1)
 
 explore-same-length : (t : ℕ) → explore-lts.Need-same-length (explore-calls t) (explore-at t) explore.Post
 explore-same-length t c = omega arith
@@ -148,7 +190,9 @@ explore-returns-2 t c =
     (node-leaf _ _ _ _ _ _ _ _ _ _ (a .own-answer .ensures .0) _ (c .if2 .taken), a .own-answer .ensures .1)
 
 explore-attempt-requires : (t : ℕ) → explore-lts.Need-attempt-requires (explore-calls t) (explore-at t) explore.Post
-explore-attempt-requires t c κs = omega arith
+explore-attempt-requires t c κs =
+    let a = c .before .before .before .before .before .before .before .before .before .before .before in
+    (omega (arith, a .pre .0), (omega arith, (omega (arith, a .pre .1 .1 .0), a .pre .1 .1 .1)))
 
 explore-same-length-3 : (t : ℕ) → explore-lts.Need-same-length-3 (explore-calls t) (explore-at t) explore.Post
 explore-same-length-3 t c = omega arith
@@ -168,10 +212,12 @@ pub +attempt+explore-spec : {M : Type 1} → statement M
     attempt-μ-loop
     (attempt-start-of-requires t)
     (attempt-loop-holds t)
-    (attempt-try-event-requires t)
+    (attempt-refusal-at-requires t)
     (attempt-grow-slot-requires t)
-    (attempt-add-t22 t)
-    (attempt-sub-t23 t)
+    (attempt-add-t23 t)
+    (attempt-sub-t24 t)
+    (attempt-last-answer-requires t)
+    (attempt-reached-at-requires t)
     (attempt-explore-requires t)
     (attempt-same-length t)
     (attempt-returns t)

@@ -8,7 +8,7 @@ use Rattle.engine.proofs.own_answer.Tie as tie
 
 returns : tie.Need-returns
 unfolding emptyOff put
-returns c = simp (c .if1 .taken) (refl, c .before .before .before .pre)
+returns c = simp (c .if1 .taken) (refl, c .before .before .before .pre .0)
 
 returns-2 : tie.Need-returns-2
 unfolding emptyIf emptyOff grows
@@ -19,7 +19,7 @@ returns-2 c =
 
 returns-3 : tie.Need-returns-3
 unfolding emptyIf emptyOff put
-returns-3 c = (rw (c .before .before .if1 .left, ← c .before .all-hold .ensures, c .if2 .left) refl, c .before .before .before .before .before .pre)
+returns-3 c = (rw (c .before .before .if1 .left, ← c .before .all-hold .ensures, c .if2 .left) refl, c .before .before .before .before .before .pre .0)
 
 pub own-answer-spec : {M : Type 1} → statement M
 own-answer-spec =

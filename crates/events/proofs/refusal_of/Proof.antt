@@ -1,3 +1,4 @@
+use Rattle.packed.specs.Packed.{unpacked}
 use Rattle.block.specs.Line.{is-first}
 use Rattle.block.specs.Expected.{expected}
 use borrow.Author.Needs.{needs}
@@ -71,7 +72,7 @@ refusal-of-spec =
     (λ c. rw (c .before .enum-told16 .given .1) (c .exit-released-refusal .ensures))
     (λ c. rw (c .before .enum-told17 .given .1) (c .entry-refusal .ensures))
     (λ c. rw (c .before .enum-told18 .given .1) (c .entry-released-refusal .ensures))
-    (λ c. rw (c .before .enum-told19 .given .1) (c .occupied-refusal .ensures (expected (c .before .before .before .args .at .plan) (c .before .before .before .args .at .own) (c .before .before .before .args .x) (c .before .before .before .args .at .section)) (is-first (c .before .before .before .args .at .plan) (c .before .before .before .args .at .own) (c .before .before .before .args .at .section))))
+    (λ c. rw (c .before .enum-told19 .given .1) (c .occupied-refusal .ensures (expected (c .before .before .before .args .at .plan) (c .before .before .before .args .at .own) (unpacked (c .before .before .before .args .x)) (c .before .before .before .args .at .section)) (is-first (c .before .before .before .args .at .plan) (c .before .before .before .args .at .own) (c .before .before .before .args .at .section))))
     (λ c. rw (c .before .enum-told20 .given .1) (c .freed-refusal .ensures))
     (λ c. rw (c .before .enum-told21 .given .1) (c .link-lost-refusal .ensures))
     (λ c. rw (c .before .enum-told22 .given .1) (c .link-restored-refusal .ensures))

@@ -16,7 +16,7 @@ events-long c = search needs
 
 -- what the code's test says of the continuation
 judged : (c : tie.Start) (r : Bool) → r ≡ isContinuation (c .args .q .events .count) (c .args .q .length) (c .args .after .now) → isContinuation (rules (c .args .q) .events) (c .args .q .length) (c .args .after .now) ≡ r
-judged c = by-count (c .args .q) (c .pre) (events-long c) (λ (n : ℕ). isContinuation n (c .args .q .length) (c .args .after .now))
+judged c = by-count (c .args .q) (c .pre .0) (events-long c) (λ (n : ℕ). isContinuation n (c .args .q .length) (c .args .after .now))
 
 returns : tie.Need-returns
 unfolding part-of
@@ -27,7 +27,9 @@ unfolding part-of
 returns-2 c = rw (c .nothing2 .ensures, judged (c .before .before .before .before .before .before) _ (c .before .before .before .is-continuation .ensures) ∙ not-false _ (c .before .before .if1 .left), lt-leb _ _ (c .before .if2 .taken)) refl
 
 part-after-requires : tie.Need-part-after-requires
-part-after-requires c κs = (c .before .before .before .before .before .before .pre, judged (c .before .before .before .before .before .before) _ (c .before .before .before .is-continuation .ensures) ∙ not-false _ (c .before .before .if1 .left))
+part-after-requires c κs =
+    let a = c .before .before .before .before .before .before in
+    (a .pre .0, (judged a _ (c .before .before .before .is-continuation .ensures) ∙ not-false _ (c .before .before .if1 .left), a .pre .1))
 
 returns-3 : tie.Need-returns-3
 unfolding part-of

@@ -2,8 +2,8 @@ use mathlib.Core.Path.{refl, sym, ap, _∙_, subst}
 use borrow.Author.Needs.{needs}
 use borrow.Author.Tests.{eq-eqb, ne-eqb}
 use Rattle.paper.specs.declared.read.Read.{Read}
-use Rattle.keys.specs.Key.{Bounded}
-use Rattle.keys.proofs.Accepted.{bounded}
+use Rattle.keys.specs.Key.{Bounded, Judged}
+use Rattle.keys.proofs.Accepted.{bounded, judged}
 use Rattle.keys.proofs.key.Statement.{statement}
 use Rattle.keys.proofs.key.Tie as tie
 
@@ -13,7 +13,8 @@ returns c = rw (c .nothing .ensures, ← c .before .before .before .read-questio
 fetch-requires : tie.Need-fetch-requires
 fetch-requires c κs =
     let r = c .before .before .before in
-    subst (λ (d : Read). Bounded (d .question)) (sym (r .read-question .ensures)) (bounded _ (ap (λ (d : Read). d .refusal) (sym (r .read-question .ensures)) ∙ c .before .if1 .left))
+    let ok = (ap (λ (d : Read). d .refusal) (sym (r .read-question .ensures)) ∙ c .before .if1 .left) in
+    (subst (λ (d : Read). Bounded (d .question)) (sym (r .read-question .ensures)) (bounded _ ok), subst (λ (d : Read). Judged (d .question)) (sym (r .read-question .ensures)) (judged _ ok))
 
 returns-2 : tie.Need-returns-2
 returns-2 c =

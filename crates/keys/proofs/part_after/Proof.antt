@@ -17,7 +17,7 @@ readings-long c = search needs
 six-requires : tie.Need-six-requires
 six-requires c κs =
     let a = c .before .before .before .before .before .before in
-    continuation-six _ _ (a .pre .0 .2) _ (a .pre .1)
+    continuation-six _ _ (a .pre .0 .2) _ (a .pre .1 .0)
 
 array-share-prefix-events : tie.Need-array-share-prefix-events
 array-share-prefix-events c = omega (arith, events-long (c .before .before .before .before .before .before .before .before .before))
@@ -36,7 +36,7 @@ key-part-requires c κs =
     let w = c .before .before .before in
     let n = w .before .before .before .before in
     let a = n .before .before .before .before .before in
-    ((omega (arith, length-take (2 * n .wide .result) (a .args .q .events .bytes), events-long a), omega (arith, a .pre .0)), rw (w .wide3 .ensures .0, w .before .before .six .ensures, n .wide .ensures .0) (a .pre .1))
+    ((omega (arith, length-take (2 * n .wide .result) (a .args .q .events .bytes), events-long a), omega (arith, a .pre .0)), (rw (w .wide3 .ensures .0, w .before .before .six .ensures, n .wide .ensures .0) (a .pre .1 .0), rw (w .before .before .before .wide2 .ensures .0, n .wide .ensures .0) (a .pre .1 .1)))
 
 returns : tie.Need-returns
 returns c =

@@ -16,14 +16,16 @@ events-long c = search needs
 
 -- what the code's test says of the slot
 judged : (c : tie.Start) (r : Bool) → r ≡ isSlot (c .args .q .events .count) (c .args .q .length) (c .args .slot .now) → isSlot (rules (c .args .q) .events) (c .args .q .length) (c .args .slot .now) ≡ r
-judged c = by-count (c .args .q) (c .pre) (events-long c) (λ (n : ℕ). isSlot n (c .args .q .length) (c .args .slot .now))
+judged c = by-count (c .args .q) (c .pre .0) (events-long c) (λ (n : ℕ). isSlot n (c .args .q .length) (c .args .slot .now))
 
 returns : tie.Need-returns
 unfolding slot-run
 returns c = rw (c .not-run .ensures, judged (c .before .before .before .before) _ (c .before .before .is-slot .ensures) ∙ not-true _ (c .before .if1 .taken)) refl
 
 run-slot-requires : tie.Need-run-slot-requires
-run-slot-requires c κs = (c .before .before .before .pre, judged (c .before .before .before) _ (c .before .is-slot .ensures) ∙ not-false _ (c .if1 .left))
+run-slot-requires c κs =
+    let a = c .before .before .before in
+    (a .pre .0, (judged a _ (c .before .is-slot .ensures) ∙ not-false _ (c .if1 .left), a .pre .1))
 
 returns-2 : tie.Need-returns-2
 unfolding slot-run

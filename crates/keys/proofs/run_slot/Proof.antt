@@ -9,7 +9,7 @@ use Rattle.keys.proofs.run_slot.Statement.{statement}
 use Rattle.keys.proofs.run_slot.Tie as tie
 
 six : (c : tie.Start) → length (c .args .slot .now) ≡ 6
-six c = slot-six _ _ (c .pre .0 .2) _ (c .pre .1)
+six c = slot-six _ _ (c .pre .0 .2) _ (c .pre .1 .0)
 
 events-long : (c : tie.Start) → length (c .args .q .events .bytes) ≡ 24
 events-long c = search needs
@@ -35,19 +35,19 @@ slice-aggregate-run-places-2 c = sym (length-take-le _ _ (omega (arith, readings
 part-run-places-end : tie.Need-part-run-places-end
 part-run-places-end c =
     let a = c .before .before .before .before .before .before .before .before .before in
-    omega (arith, six a, slot-first _ _ (a .pre .0 .2) _ (a .pre .1))
+    omega (arith, six a, slot-first _ _ (a .pre .0 .2) _ (a .pre .1 .0))
 
 run-places-requires : tie.Need-run-places-requires
 run-places-requires c κs =
     let w = c .before .before .before in
     let a = w .before .before .before .before .before .before .before in
-    places-permitted (a .args .q) (a .pre .0) (a .args .slot .now) (a .pre .1) _ _ (w .before .before .before .wide .ensures .0) (w .wide3 .ensures .0)
+    (places-permitted (a .args .q) (a .pre .0) (a .args .slot .now) (a .pre .1 .0) _ _ (w .before .before .before .wide .ensures .0) (w .wide3 .ensures .0), rw (w .before .before .before .wide .ensures .0, w .before .before .wide2 .ensures .0) (a .pre .1 .1))
 
 returns : tie.Need-returns
 returns c =
     let w = c .before .before .before .before in
     let a = w .before .before .before .before .before .before .before in
-    c .run-places .ensures ∙ rw (places (a .args .q) (a .pre .0) (a .args .slot .now) (a .pre .1) _ _ (w .before .before .before .wide .ensures .0) (w .wide3 .ensures .0), w .before .before .before .wide .ensures .0, w .before .before .wide2 .ensures .0) refl
+    c .run-places .ensures ∙ rw (places (a .args .q) (a .pre .0) (a .args .slot .now) (a .pre .1 .0) _ _ (w .before .before .before .wide .ensures .0) (w .wide3 .ensures .0), w .before .before .before .wide .ensures .0, w .before .before .wide2 .ensures .0) refl
 
 pub run-slot-spec : {M : Type 1} → statement M
 run-slot-spec =

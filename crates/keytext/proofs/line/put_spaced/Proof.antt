@@ -1,6 +1,6 @@
 -- The loop's invariant: what is left, written from `end` on, gives what the whole word gives from `at` on. The measure is the number of places left.
 use Prim.Native.Nat.{_+_}
-use mathlib.Core.Path.{_≡_, refl, sym, ap, _∙_}
+use mathlib.Core.Path.{_≡_, sym, ap, _∙_}
 use borrow.Author.Needs.{needs}
 use native.Mathlib.Omega.{arith}
 use lib.ListN.{length, length-set}
@@ -22,23 +22,22 @@ loop-holds : tie.Need-loop-holds Inv-loop μ-loop
 loop-holds c = search needs
 
 slice-write-room : tie.Need-slice-write-room Inv-loop μ-loop
-slice-write-room c = omega (arith, spaced-length (c .before .loop .left .now) _ (c .loop-test .taken) refl)
+slice-write-room c = omega (arith, spaced-length (c .before .loop .left .now) (c .loop-test .taken))
 
-add-put-number : tie.Need-add-put-number Inv-loop μ-loop
-add-put-number c = record { fits = omega (arith, spaced-length (c .before .before .before .loop .left .now) _ (c .before .before .loop-test .taken) (c .wide .ensures)) }
+add-put-place : tie.Need-add-put-place Inv-loop μ-loop
+add-put-place c = record { fits = omega (arith, spaced-length (c .before .before .loop .left .now) (c .before .loop-test .taken)) }
 
-put-number-requires : tie.Need-put-number-requires Inv-loop μ-loop
-put-number-requires c κs = rw length-set (omega (arith, spaced-length (c .before .before .before .before .loop .left .now) _ (c .before .before .before .loop-test .taken) (c .before .wide .ensures)))
+put-place-requires : tie.Need-put-place-requires Inv-loop μ-loop
+put-place-requires c κs = rw length-set (omega (arith, spaced-length (c .before .before .before .loop .left .now) (c .before .before .loop-test .taken)))
 
 loop-again : tie.Need-loop-again Inv-loop μ-loop
 loop-again c =
-    let l = c .before .before .before .before .before .before .before .before .loop in
-    let p = c .before .before .before .put-number in
-    let w = c .before .before .before .before .before .wide in
-    let some = c .before .before .before .before .before .before .before .loop-test .taken in
-    let long = spaced-length (l .left .now) _ some (w .ensures) in
+    let l = c .before .before .before .before .before .before .before .loop in
+    let p = c .before .before .before .put-place in
+    let some = c .before .before .before .before .before .before .loop-test .taken in
+    let long = spaced-length (l .left .now) some in
     rw rest
-    (omega (arith, p .ensures .0), spaced-step (l .left .now) _ _ _ _ (l .room) some (w .ensures) (omega arith) (p .ensures .0) (p .ensures .1) ∙ l .inv .1, p .kept .1 .1 .0 ∙ length-set (l .room) (l .end) 32 ∙ l .inv .2)
+    (omega (arith, p .ensures .0), spaced-step (l .left .now) _ _ _ (l .room) some (omega arith) (p .ensures .0) (p .ensures .1) ∙ l .inv .1, p .kept .1 .1 .0 ∙ length-set (l .room) (l .end) 32 ∙ l .inv .2)
 
 same-length : tie.Need-same-length Inv-loop μ-loop
 same-length c = c .before .loop .inv .2
@@ -58,9 +57,8 @@ put-spaced-spec =
     loop-holds
     slice-write-room
     (λ c. search needs)
-    (λ c κs. search needs)
-    add-put-number
-    put-number-requires
+    add-put-place
+    put-place-requires
     (λ c. search needs)
     (λ c. search needs)
     (λ c. search needs)

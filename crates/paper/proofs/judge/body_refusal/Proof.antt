@@ -6,20 +6,20 @@ use lib.Seq.{length-take-le}
 use Rattle.paper.proofs.judge.body_refusal.Statement.{statement}
 use Rattle.paper.proofs.judge.body_refusal.Tie as tie
 
-events-long : (c : tie.Start) → length (c .args .q .events .bytes) ≡ 24
+events-long : (c : tie.Start) → length (c .args .events .bytes) ≡ 24
 events-long c = search needs
 
-readings-long : (c : tie.Start) → length (c .args .q .readings .bytes) ≡ 18
+readings-long : (c : tie.Start) → length (c .args .readings .bytes) ≡ 18
 readings-long c = search needs
 
-array-share-prefix-events : tie.Need-array-share-prefix-events
-array-share-prefix-events c = omega (arith, events-long (c .before .before .before .before))
+array-share-prefix-listed : tie.Need-array-share-prefix-listed
+array-share-prefix-listed c = omega (arith, events-long (c .before .before .before .before))
 
 slice-aggregate-lists-refusal : tie.Need-slice-aggregate-lists-refusal
 slice-aggregate-lists-refusal c = sym (length-take-le _ _ (omega (arith, events-long (c .before .before .before .before .before))))
 
-array-share-prefix-readings : tie.Need-array-share-prefix-readings
-array-share-prefix-readings c = omega (arith, readings-long (c .before .before .before .before .before))
+array-share-prefix-read : tie.Need-array-share-prefix-read
+array-share-prefix-read c = omega (arith, readings-long (c .before .before .before .before .before))
 
 slice-aggregate-lists-refusal-2 : tie.Need-slice-aggregate-lists-refusal-2
 slice-aggregate-lists-refusal-2 c = sym (length-take-le _ _ (omega (arith, readings-long (c .before .before .before .before .before .before))))
@@ -35,9 +35,9 @@ body-refusal-spec =
     (λ c. search needs)
     (λ c κs. search needs)
     (λ c. search needs)
-    array-share-prefix-events
+    array-share-prefix-listed
     slice-aggregate-lists-refusal
-    array-share-prefix-readings
+    array-share-prefix-read
     slice-aggregate-lists-refusal-2
     (λ c κs. search needs)
     returns)

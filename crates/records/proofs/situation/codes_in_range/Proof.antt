@@ -1,4 +1,3 @@
-use mathlib.Core.Path.{refl}
 use borrow.Author.Needs.{needs}
 use Rattle.records.specs.Situation.{codes-in-range}
 use Rattle.records.proofs.situation.codes_in_range.Statement.{statement}
@@ -6,7 +5,11 @@ use Rattle.records.proofs.situation.codes_in_range.Tie as tie
 
 returns : tie.Need-returns
 unfolding codes-in-range
-returns c = refl
+returns c = rw (c .before .before .before .before .before .if1 .taken)
+
+returns-2 : tie.Need-returns-2
+unfolding codes-in-range
+returns-2 c = rw (c .if1 .left)
 
 pub codes-in-range-spec : {M : Type 1} → statement M
 codes-in-range-spec =
@@ -25,4 +28,5 @@ codes-in-range-spec =
     (λ c. search needs)
     (λ c. search needs)
     (λ c. search needs)
-    returns)
+    returns
+    returns-2)

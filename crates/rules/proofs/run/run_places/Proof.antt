@@ -2,11 +2,14 @@
 use Prim.Native.Nat.{_+_, _-_, _≤_}
 use mathlib.Core.Path.{_≡_, refl, sym, ap, _∙_}
 use native.Mathlib.Omega.{arith}
-use lib.ListN.{length, drop}
+use lib.ListN.{length, drop, getD}
 use borrow.Author.Needs.{needs}
 use borrow.Author.Tests.{eq-eqb, ne-eqb}
-use Rattle.keylaws.specs.Run.{runFrom, run}
-use Rattle.events.specs.declared.Outcome.{Outcome}
+use mathlib.Core.Bool.{Bool, cond}
+use denote.Ref.{now}
+use Rattle.keylaws.specs.Run.{Outcome, runFrom, run, stopped}
+use Rattle.block.specs.declared.situation.Situation.{Situation}
+use Rattle.packed.specs.Packed.{unpacked}
 use Rattle.rules.specs.RulesOf.{rulesOf}
 use Rattle.rules.proofs.RunSteps.{run-end, run-step}
 use Rattle.rules.proofs.run.run_places.Statement.{statement}
@@ -14,32 +17,33 @@ use Rattle.rules.proofs.run.run_places.Tie as tie
 
 abbrev Inv-loop : tie.InvT-loop
 Inv-loop plan events readings places x₀ i₀ x i =
-    (i ≤ length places) × (runFrom (rulesOf plan events readings) x (i + 1) (drop i places) ≡ run (rulesOf plan events readings) x₀ places)
+    (i ≤ length places) × (runFrom (rulesOf plan events readings) (unpacked x) (i + 1) (drop i places) ≡ run (rulesOf plan events readings) (unpacked x₀) places)
 
 abbrev μ-loop : tie.MeasureT-loop
 μ-loop plan events readings places x₀ i₀ x i = length places - i
 
-try-event-requires : tie.Need-try-event-requires Inv-loop μ-loop
-try-event-requires c κs =
-    let a = c .before .before .before .before .before .before in
-    omega (arith, a .pre .1 (c .before .before .loop .i) (omega arith))
-
 loop-again : tie.Need-loop-again Inv-loop μ-loop
 loop-again c =
-    let t = c .before .before .before in
-    let l = t .before .before .before in
-    (omega arith, sym (sym (l .loop .inv .1) ∙ run-step _ _ _ _ (omega arith) ∙ rw (eq-eqb _ 0 (ap (λ (o : Outcome). o .refusal) (sym (t .try-event .ensures)) ∙ c .before .if2 .left), ap (λ (o : Outcome). o .next) (t .try-event .ensures)) refl))
+    let a = c .before .before .before .before .before .before .before .before .before .before .args in
+    let R = rulesOf (a .plan) (now (a .events)) (now (a .readings)) in
+    let l = c .before .before .before .before .before .loop in
+    let place = getD (now (a .places)) (l .i) 0 in
+    let on : Situation → Outcome = λ y. runFrom R y (l .i + 1 + 1) (drop (l .i + 1) (now (a .places))) in
+    (omega arith, sym (sym (l .inv .1) ∙ run-step R (unpacked (l .x)) (now (a .places)) (l .i) (omega arith) ∙ ap (λ (v : Bool). cond v (on (R .next (unpacked (l .x)) place)) (stopped (l .i + 1) (R .refusal (unpacked (l .x)) place))) (eq-eqb _ 0 (sym (c .before .before .refusal-at .ensures) ∙ c .before .if2 .left)) ∙ ap on (sym (c .reached-at .ensures))))
 
 returns : tie.Need-returns Inv-loop μ-loop
 returns c =
-    let l = c .before .before in
-    rw (c .all-hold .ensures) (sym (sym (l .loop .inv .1) ∙ run-end _ _ _ _ (omega arith)))
+    let a = c .before .before .before .before .before .before .before .args in
+    let R = rulesOf (a .plan) (now (a .events)) (now (a .readings)) in
+    let whole = c .before .before .loop .inv .1 ∙ ap (λ (s : Situation). run R s (now (a .places))) (c .before .before .before .pack .ensures) in
+    rw (c .all-hold .ensures) (sym (sym whole ∙ run-end _ _ _ _ (omega arith)))
 
 returns-2 : tie.Need-returns-2 Inv-loop μ-loop
 returns-2 c =
-    let t = c .before .before in
-    let l = t .before .before .before in
-    sym (sym (l .loop .inv .1) ∙ run-step _ _ _ _ (omega arith) ∙ rw (ne-eqb _ 0 (λ z. c .if2 .taken (ap (λ (o : Outcome). o .refusal) (t .try-event .ensures) ∙ z)), ap (λ (o : Outcome). o .refusal) (t .try-event .ensures)) refl)
+    let a = c .before .before .before .before .before .before .before .before .before .args in
+    let R = rulesOf (a .plan) (now (a .events)) (now (a .readings)) in
+    let whole = c .before .before .before .before .loop .inv .1 ∙ ap (λ (s : Situation). run R s (now (a .places))) (c .before .before .before .before .before .pack .ensures) in
+    sym (sym whole ∙ run-step _ _ _ _ (omega arith) ∙ rw (ne-eqb _ 0 (λ z. c .if2 .taken (c .before .refusal-at .ensures ∙ z)), c .before .refusal-at .ensures) refl)
 
 pub run-places-spec : {M : Type 1} → statement M
 run-places-spec =
@@ -47,13 +51,15 @@ run-places-spec =
     (tie.spec
     Inv-loop
     μ-loop
+    (λ c κs. search needs)
     (λ c. (omega arith, refl))
     (λ c κs. search needs)
     (λ c. search needs)
     (λ c. omega (arith, c .shared-slice-known4 .given (c .before .before .loop .i)))
-    try-event-requires
+    (λ c κs. (omega (arith, c .before .before .before .before .before .before .before .pre .0 .1 (c .before .before .loop .i) (omega arith)), c .before .before .before .before .before .before .before .pre .1 .0))
     (λ c. search needs)
     (λ c. search needs)
+    (λ c κs. (omega (arith, c .before .before .before .before .before .before .before .before .before .pre .0 .1 (c .before .before .before .before .loop .i) (omega arith)), sym (c .before .refusal-at .ensures) ∙ c .if2 .left))
     (λ c. search needs)
     (λ c. search needs)
     loop-again

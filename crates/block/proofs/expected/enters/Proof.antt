@@ -1,6 +1,0 @@
-use borrow.Author.Needs.{needs}
-use Rattle.block.proofs.expected.enters.Statement.{statement}
-use Rattle.block.proofs.expected.enters.Tie as tie
-
-pub enters-spec : {M : Type 1} → statement M
-enters-spec = tie.close (tie.spec (λ c κs. search needs) (λ c κs. search needs) (λ c. rw (c .routed .ensures, c .before .is-first .ensures)))

@@ -1,6 +1,0 @@
-use borrow.Author.Needs.{needs}
-use Rattle.block.proofs.situation.Situation.bslb.Statement.{statement}
-use Rattle.block.proofs.situation.Situation.bslb.Tie as tie
-
-pub bslb-spec : {M : Type 1} → statement M
-bslb-spec = tie.close (tie.spec (λ c κs. search needs) (λ c κs. search needs) (λ c κs. search needs) (λ c. rw (c .with-held .ensures, c .before .with-section .ensures, c .before .before .held .ensures)))

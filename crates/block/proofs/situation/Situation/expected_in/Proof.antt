@@ -1,6 +1,0 @@
-use borrow.Author.Needs.{needs}
-use Rattle.block.proofs.situation.Situation.expected_in.Statement.{statement}
-use Rattle.block.proofs.situation.Situation.expected_in.Tie as tie
-
-pub expected-in-spec : {M : Type 1} → statement M
-expected-in-spec = tie.close (tie.spec (λ c κs. search needs) (λ c κs. search needs) (λ c κs. search needs) (λ c κs. search needs) (λ c. rw (c .follows .ensures, c .before .enters .ensures, c .before .before .toward .ensures, c .before .before .before .opposite .ensures)))

@@ -1,6 +1,0 @@
-use borrow.Author.Needs.{needs}
-use Rattle.block.proofs.situation.Situation.follows.Statement.{statement}
-use Rattle.block.proofs.situation.Situation.follows.Tie as tie
-
-pub follows-spec : {M : Type 1} → statement M
-follows-spec = tie.close (tie.spec (λ c κs. search needs) (λ c κs. search needs) (λ c κs. search needs) (λ c. rw (c .before .across-frontier .ensures, c .before .before .has .ensures, c .before .before .before .before2 .ensures)))

@@ -1,6 +1,0 @@
-use borrow.Author.Needs.{needs}
-use Rattle.block.proofs.situation.Situation.orientation_change.Statement.{statement}
-use Rattle.block.proofs.situation.Situation.orientation_change.Tie as tie
-
-pub orientation-change-spec : {M : Type 1} → statement M
-orientation-change-spec = tie.close (tie.spec (λ c κs. search needs) (λ c κs. search needs) (λ c. rw (c .changes2 .ensures, c .before .changes .ensures)))

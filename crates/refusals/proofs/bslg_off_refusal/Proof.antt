@@ -1,0 +1,6 @@
+use borrow.Author.Needs.{needs}
+use Rattle.refusals.proofs.bslg_off_refusal.Statement.{statement}
+use Rattle.refusals.proofs.bslg_off_refusal.Tie as tie
+
+pub bslg-off-refusal-spec : {M : Type 1} → statement M
+bslg-off-refusal-spec = tie.close (tie.spec (λ c κs. search needs) (λ c κs. search needs) (λ c. cc))

@@ -1,0 +1,6 @@
+use borrow.Author.Needs.{needs}
+use Rattle.refusals.proofs.entry_released_refusal.Statement.{statement}
+use Rattle.refusals.proofs.entry_released_refusal.Tie as tie
+
+pub entry-released-refusal-spec : {M : Type 1} → statement M
+entry-released-refusal-spec = tie.close (tie.spec (λ c κs. search needs) (λ c κs. search needs) (λ c. cc))

@@ -1,0 +1,260 @@
+-- What is in the sets of signals, one section at a time. Assumes nothing.
+use Prim.Native.Nat.{ℕ, zero, suc, _+_, _-_, _≤_, _<_}
+use mathlib.Core.Path.{_≡_, refl, sym, ap, ap₂, _∙_}
+use mathlib.Core.Bool.{Bool, true, false, not}
+use native.Mathlib.Omega.{arith}
+use native.Mathlib.Decide.{decLt, ℕ-discrete}
+use lib.Dec.{T, eqb, leb, ltb, leb→le}
+use borrow.Author.Tests.{ltb-true, leb-true, eq-eqb, ne-eqb, le-leb, lt-leb}
+use Rattle.sections.specs.Words.{_and_, _or_, if_then_else_}
+use Rattle.sections.specs.Sections.{none, _∈_, only, both, either, _minus_, up-to, one-down, one-up}
+use Rattle.sections.proofs.Tests.{and-at, is-holds, holds-is}
+use Rattle.sections.proofs.SetsOfSets.{in-both, in-either, in-minus, in-only, in-given, in-one-down, in-one-up, in-up-to}
+use Rattle.block.specs.Line.{isPlan, is-section, owner, first-section, is-first, is-exit, entrance, terminus, after, same-station, across-frontier}
+use Rattle.block.specs.Situation.{station, areaDirection, held, _has-exit-route}
+use Rattle.block.specs.declared.line.Plan.{Plan}
+use Rattle.block.specs.declared.line.Name.{Name}
+use Rattle.block.specs.declared.line.Name.the-variants.{StationA, StationB}
+use Rattle.block.specs.declared.line.Direction.{Direction}
+use Rattle.block.specs.declared.line.Direction.the-variants.{TowardsA, TowardsB}
+use Rattle.block.specs.declared.situation.Situation.{Situation}
+use Rattle.signals.specs.Aspects.{runs, block-open, exit-open, not-red, is-last, next-not-red, aspect-at}
+use Rattle.signals.specs.SignalSets.{those, in-area, leaves, arrives, block-lit, exit-lit, is-green, Moved, on-edge, shown}
+use Rattle.signals.specs.declared.lights.Lights.{Lights}
+
+-- ---- the numbers of a plan
+pub record Sized (p : Plan) : Type 0 where
+  pub two : 2 ≤ p .sections
+  pub top : p .sections ≤ 16
+  pub low : 1 ≤ p .frontier
+  pub inner : p .frontier < p .sections
+
+pub sized : (p : Plan) → isPlan p ≡ true → Sized p
+sized p e =
+    let h₁ = and-at (leb 2 (p .sections) and leb (p .sections) 16 and leb 1 (p .frontier)) (ltb (p .frontier) (p .sections)) (is-holds (isPlan p) e) in
+    let h₂ = and-at (leb 2 (p .sections) and leb (p .sections) 16) (leb 1 (p .frontier)) (h₁ .0) in
+    let h₃ = and-at (leb 2 (p .sections)) (leb (p .sections) 16) (h₂ .0) in
+    record {
+      two = leb→le 2 (p .sections) (h₃ .0);
+      top = leb→le (p .sections) 16 (h₃ .1);
+      low = leb→le 1 (p .frontier) (h₂ .1);
+      inner = ltb-true (p .frontier) (p .sections) (holds-is (ltb (p .frontier) (p .sections)) (h₁ .1));
+    }
+
+pub record Within (p : Plan) (k : ℕ) : Type 0 where
+  pub least : 1 ≤ k
+  pub most : k ≤ p .sections
+
+pub within : (p : Plan) (k : ℕ) → is-section p k ≡ true → Within p k
+within p k e =
+    let h = and-at (leb 1 k) (leb k (p .sections)) (is-holds (is-section p k) e) in
+    record { least = leb→le 1 k (h .0); most = leb→le k (p .sections) (h .1) }
+
+pub first-small : (p : Plan) (s : Name) → isPlan p ≡ true → first-section p s < 64
+first-small p StationA e = omega arith
+first-small p StationB e = let h : Sized p = sized p e in omega arith
+
+-- ---- an area
+in-A : (v : Bool) → v ≡ same-station (if v then StationA else StationB) StationA
+in-A true = refl
+in-A false = refl
+
+in-B : (v : Bool) → not v ≡ same-station (if v then StationA else StationB) StationB
+in-B true = refl
+in-B false = refl
+
+pub area-A : (p : Plan) → those p (in-area p StationA) (up-to (p .frontier))
+area-A p k e =
+    in-up-to k (p .frontier)
+    ∙ ap (λ (v : Bool). v and leb k (p .frontier)) (le-leb 1 k (within p k e .least))
+    ∙ in-A (leb k (p .frontier))
+
+pub area-B : (p : Plan) → those p (in-area p StationB) (up-to (p .sections) minus up-to (p .frontier))
+area-B p k e =
+    in-minus k (up-to (p .sections)) (up-to (p .frontier))
+    ∙ ap₂ (λ (v w : Bool). v and not w) (in-up-to k (p .sections) ∙ e) (in-up-to k (p .frontier))
+    ∙ ap (λ (v : Bool). not (v and leb k (p .frontier))) (le-leb 1 k (within p k e .least))
+    ∙ in-B (leb k (p .frontier))
+
+-- ---- block signals
+near-station : (a b c h : Bool) → (((a and not b) and true or c and false) and not h) ≡ (a and not h and not b)
+near-station true true true true = refl
+near-station true true true false = refl
+near-station true true false true = refl
+near-station true true false false = refl
+near-station true false true true = refl
+near-station true false true false = refl
+near-station true false false true = refl
+near-station true false false false = refl
+near-station false b true h = refl
+near-station false b false h = refl
+
+far-station : (a b c h : Bool) → ((c and false or (a and not b) and true) and not h) ≡ (a and not h and not b)
+far-station true true true true = refl
+far-station true true true false = refl
+far-station true true false true = refl
+far-station true true false false = refl
+far-station true false true true = refl
+far-station true false true false = refl
+far-station true false false true = refl
+far-station true false false false = refl
+far-station false b true h = refl
+far-station false b false h = refl
+
+-- where trains enter the line they leave, and they arrive at the other end
+by-station : (x : Situation) (d : Direction) (s : Name) (h : Bool) → ((leaves (station x (entrance d)) and same-station s (entrance d) or arrives (station x (terminus d)) and same-station s (terminus d)) and not h) ≡ (runs s (areaDirection (station x s)) d and not h and not (station x s .bslg))
+by-station x TowardsA StationA h = far-station (areaDirection (x .own) .inward) (x .own .bslg) (leaves (x .other)) h
+by-station x TowardsA StationB h = near-station (areaDirection (x .other) .out) (x .other .bslg) (arrives (x .own)) h
+by-station x TowardsB StationA h = near-station (areaDirection (x .own) .out) (x .own .bslg) (arrives (x .other)) h
+by-station x TowardsB StationB h = far-station (areaDirection (x .other) .inward) (x .other .bslg) (leaves (x .own)) h
+
+pub block-set : (p : Plan) (x : Situation) (d : Direction) (a b : ℕ) → those p (in-area p (entrance d)) a → those p (in-area p (terminus d)) b → those p (block-lit p x d) (either (if leaves (station x (entrance d)) then a else none) (if arrives (station x (terminus d)) then b else none) minus held x d)
+block-set p x d a b near far k e =
+    in-minus k (either (if leaves (station x (entrance d)) then a else none) (if arrives (station x (terminus d)) then b else none)) (held x d)
+    ∙ ap (λ (v : Bool). v and not (k ∈ held x d))
+    (in-either k (if leaves (station x (entrance d)) then a else none) (if arrives (station x (terminus d)) then b else none)
+    ∙ ap₂ (λ (v w : Bool). v or w)
+    (in-given k (leaves (station x (entrance d))) a ∙ ap (λ (v : Bool). leaves (station x (entrance d)) and v) (near k e))
+    (in-given k (arrives (station x (terminus d))) b ∙ ap (λ (v : Bool). arrives (station x (terminus d)) and v) (far k e)))
+    ∙ by-station x d (owner p k) (k ∈ held x d)
+
+-- ---- exit signals
+and-turned : (a b : Bool) → (a and b) ≡ (b and a)
+and-turned true true = refl
+and-turned true false = refl
+and-turned false true = refl
+and-turned false false = refl
+
+pub exit-set : (p : Plan) (x : Situation) (d : Direction) → isPlan p ≡ true → those p (exit-lit p x d) (if station x (entrance d) has-exit-route and areaDirection (station x (entrance d)) .out then only (first-section p (entrance d)) else none)
+exit-set p x d plan k e =
+    let v : Bool = station x (entrance d) has-exit-route and areaDirection (station x (entrance d)) .out in
+    in-given k v (only (first-section p (entrance d)))
+    ∙ ap (λ (w : Bool). v and w) (in-only k (first-section p (entrance d)) (first-small p (entrance d) plan))
+    ∙ and-turned v (is-exit p d k)
+
+-- ---- both
+chosen : (exit runs held bslg routed out occupied : Bool) → (((runs and not held and not bslg) and not exit or exit and (routed and out)) and not occupied) ≡ (if exit then routed and out and not occupied else runs and not occupied and not held and not bslg)
+chosen true true true b r o c = refl
+chosen true true false true r o c = refl
+chosen true true false false r o c = refl
+chosen true false h b r o c = refl
+chosen false true true b r o true = refl
+chosen false true true b r o false = refl
+chosen false true false true r o true = refl
+chosen false true false true r o false = refl
+chosen false true false false r o true = refl
+chosen false true false false r o false = refl
+chosen false false h b r o c = refl
+
+pub open-set : (p : Plan) (x : Situation) (d : Direction) (a b : ℕ) → isPlan p ≡ true → those p (block-lit p x d) a → those p (exit-lit p x d) b → those p (not-red p x d) (either (a minus only (first-section p (entrance d))) b minus x .occupied)
+open-set p x d a b plan blocks exit k e =
+    let first : ℕ = only (first-section p (entrance d)) in
+    in-minus k (either (a minus first) b) (x .occupied)
+    ∙ ap (λ (v : Bool). v and not (k ∈ x .occupied))
+    (in-either k (a minus first) b
+    ∙ ap₂ (λ (v w : Bool). v or w)
+    (in-minus k a first ∙ ap₂ (λ (v w : Bool). v and not w) (blocks k e) (in-only k (first-section p (entrance d)) (first-small p (entrance d) plan)))
+    (exit k e))
+    ∙ chosen (is-exit p d k) (runs (owner p k) (areaDirection (station x (owner p k))) d) (k ∈ held x d) (station x (owner p k) .bslg) (station x (entrance d) has-exit-route) (areaDirection (station x (entrance d)) .out) (k ∈ x .occupied)
+
+-- ---- the next signals
+pub moved-B : (m : ℕ) → Moved TowardsB m (one-down m)
+moved-B m k l h = in-one-down k m
+
+pub moved-A : (m : ℕ) → Moved TowardsA m (one-up m)
+moved-A m zero l h = absurd (omega arith)
+moved-A m (suc j) l h = ap (λ (k : ℕ). k ∈ one-up m) (omega arith) ∙ in-one-up j m (omega arith) ∙ ap (λ (k : ℕ). k ∈ m) (omega arith)
+
+pub edge-B : (p : Plan) → isPlan p ≡ true → on-edge p TowardsB (p .frontier)
+edge-B p plan = let h : Sized p = sized p plan in (omega arith, at)
+  where
+    at : (k : ℕ) → 1 ≤ k → eqb k (p .frontier) ≡ across-frontier p k (k + 1)
+    at k l = go (decLt k (p .frontier)) (decLt (p .frontier) k)
+      where
+        go : Dec (k < p .frontier) → Dec (p .frontier < k) → eqb k (p .frontier) ≡ across-frontier p k (k + 1)
+        go (yes a) b = rw (ne-eqb k (p .frontier) (λ e. omega arith), le-leb k (p .frontier) (omega arith), le-leb (k + 1) (p .frontier) (omega arith))
+        go (no a) (yes b) = rw (ne-eqb k (p .frontier) (λ e. omega arith), lt-leb k (p .frontier) (omega arith), lt-leb (k + 1) (p .frontier) (omega arith))
+        go (no a) (no b) = rw (eq-eqb k (p .frontier) (omega arith), le-leb k (p .frontier) (omega arith), lt-leb (k + 1) (p .frontier) (omega arith))
+
+pub edge-A : (p : Plan) → isPlan p ≡ true → on-edge p TowardsA (p .frontier + 1)
+edge-A p plan = let h : Sized p = sized p plan in (omega arith, at)
+  where
+    at : (k : ℕ) → 1 ≤ k → eqb k (p .frontier + 1) ≡ across-frontier p k (k - 1)
+    at k l = go (decLt k (p .frontier + 1)) (decLt (p .frontier + 1) k)
+      where
+        go : Dec (k < p .frontier + 1) → Dec (p .frontier + 1 < k) → eqb k (p .frontier + 1) ≡ across-frontier p k (k - 1)
+        go (yes a) b = rw (ne-eqb k (p .frontier + 1) (λ e. omega arith), le-leb k (p .frontier) (omega arith), le-leb (k - 1) (p .frontier) (omega arith))
+        go (no a) (yes b) = rw (ne-eqb k (p .frontier + 1) (λ e. omega arith), lt-leb k (p .frontier) (omega arith), lt-leb (k - 1) (p .frontier) (omega arith))
+        go (no a) (no b) = rw (eq-eqb k (p .frontier + 1) (omega arith), lt-leb k (p .frontier) (omega arith), le-leb (k - 1) (p .frontier) (omega arith))
+
+-- a section that is not the last has one after it
+after-section : (p : Plan) (d : Direction) (k : ℕ) → Within p k → (k ≡ first-section p (terminus d) → ⊥) → is-section p (after d k) ≡ true
+after-section p TowardsA k w n = rw (le-leb 1 (k - 1) (omega arith), le-leb (k - 1) (p .sections) (omega arith))
+after-section p TowardsB k w n = rw (le-leb 1 (k + 1) (omega arith), le-leb (k + 1) (p .sections) (omega arith))
+
+at-last : (s unseen entry : Bool) → ((s and not unseen) and not true or entry and true) ≡ entry
+at-last true true true = refl
+at-last true true false = refl
+at-last true false true = refl
+at-last true false false = refl
+at-last false unseen true = refl
+at-last false unseen false = refl
+
+before-last : (s link edge entry : Bool) → ((s and not (not link and edge)) and not false or entry and false) ≡ (s and (link or not edge))
+before-last true true edge true = refl
+before-last true true edge false = refl
+before-last true false true true = refl
+before-last true false true false = refl
+before-last true false false true = refl
+before-last true false false false = refl
+before-last false link edge true = refl
+before-last false link edge false = refl
+
+module _ (p : Plan) (x : Situation) (d : Direction) (m next edge : ℕ) where
+  abbrev pub last : ℕ
+  last = first-section p (terminus d)
+
+  abbrev pub ahead : ℕ
+  ahead = next minus (if not (x .link) then only edge else none)
+
+  abbrev pub entered : ℕ
+  entered = if station x (terminus d) .entry then only last else none
+
+  pub next-set : isPlan p ≡ true → Moved d m next → on-edge p d edge → those p (not-red p x d) m → those p (next-not-red p x d) (either (ahead minus only last) entered)
+  next-set plan moved on known k e =
+      in-either k (ahead minus only last) entered
+      ∙ ap₂ (λ (v w : Bool). v or w)
+      (in-minus k ahead (only last) ∙ ap₂ (λ (v w : Bool). v and not w) seen (in-only k last small))
+      (in-given k (station x (terminus d) .entry) (only last) ∙ ap (λ (v : Bool). station x (terminus d) .entry and v) (in-only k last small))
+      ∙ go (ℕ-discrete k last)
+    where
+      small : last < 64
+      small = first-small p (terminus d) plan
+
+      seen : (k ∈ ahead) ≡ ((k ∈ next) and not (not (x .link) and eqb k edge))
+      seen =
+          in-minus k next (if not (x .link) then only edge else none)
+          ∙ ap (λ (v : Bool). (k ∈ next) and not v) (in-given k (not (x .link)) (only edge) ∙ ap (λ (v : Bool). not (x .link) and v) (in-only k edge (on .0)))
+
+      go : Dec (k ≡ last) → (((k ∈ next) and not (not (x .link) and eqb k edge)) and not (eqb k last) or station x (terminus d) .entry and eqb k last) ≡ next-not-red p x d k
+      go (yes same) = rw (eq-eqb k last same) (at-last (k ∈ next) (not (x .link) and eqb k edge) (station x (terminus d) .entry))
+      go (no other) =
+          let w : Within p k = within p k e in
+          let n : Sized p = sized p plan in
+          let after-known : (k ∈ next) ≡ not-red p x d (after d k) = moved k (w .least) (omega arith) ∙ known (after d k) (after-section p d k w other) in
+          rw (ne-eqb k last other)
+          (before-last (k ∈ next) (x .link) (eqb k edge) (station x (terminus d) .entry)
+          ∙ ap₂ (λ (v u : Bool). v and (x .link or not u)) after-known (on .1 k (w .least)))
+
+-- ---- what is shown
+pub green-set : (p : Plan) (x : Situation) (d : Direction) (m n : ℕ) → those p (not-red p x d) m → those p (next-not-red p x d) n → those p (is-green p x d) (both m n)
+green-set p x d m n a b k e = in-both k m n ∙ ap₂ (λ (v w : Bool). v and w) (a k e) (b k e)
+
+by-aspect : (v w : Bool) → _≡_ {A = ℕ} (if v then (if v and w then 2 else 1) else 0) (if v then (if w then 2 else 1) else 0)
+by-aspect true w = refl
+by-aspect false w = refl
+
+pub shown-is : (p : Plan) (x : Situation) (d : Direction) (l : Lights) → those p (not-red p x d) (l .open) → those p (is-green p x d) (l .green) → (k : ℕ) → is-section p k ≡ true → shown l k ≡ aspect-at p x d k
+shown-is p x d l a b k e =
+    ap₂ {C = ℕ} (λ (v w : Bool). if v then (if w then 2 else 1) else 0) (a k e) (b k e)
+    ∙ by-aspect (not-red p x d k) (next-not-red p x d k)
