@@ -11,8 +11,8 @@ use Rattle.block.specs.Sound.{sound}
 use Rattle.block.specs.declared.line.Plan.{Plan}
 use Rattle.block.specs.declared.situation.Situation.{Situation}
 
--- a word has bits for all sections of a plan
-pub plan-short : (p : Plan) → T (isPlan p) → p .sections < 64
+-- a set has bits for all sections of a plan
+pub plan-short : (p : Plan) → T (isPlan p) → p .sections < 49
 plan-short p t =
     let h₁ = and-at (leb 2 (p .sections) and leb (p .sections) 16 and leb 1 (p .frontier)) (ltb (p .frontier) (p .sections)) t in
     let h₂ = and-at (leb 2 (p .sections) and leb (p .sections) 16) (leb 1 (p .frontier)) (h₁ .0) in

@@ -11,9 +11,7 @@ use Rattle.block.specs.Checks.{effect}
 use Rattle.block.specs.Pending.{pending-settled}
 use Rattle.block.specs.declared.situation.Situation.{Situation}
 use Rattle.events.specs.Rows.{event-of, row, clears-pending}
-use Rattle.events.specs.declared.Place.{Place}
-use Rattle.events.specs.declared.Event.{Event}
-use Rattle.events.specs.declared.Event.the-variants.{Sobb, Cobb, Afbli, Afble, Dafbl, Bilc, Dilc, Bslg, BslgOff, Bslb, BslbOff, Reminder, ReminderOff, ExitNormal, ExitSpecial, ExitReleased, Entry, EntryReleased, Occupied, Freed, LinkLost, LinkRestored, Unknown}
+use Rattle.events.specs.Event.{Place, Event, Sobb, Cobb, Afbli, Afble, Dafbl, Bilc, Dilc, Bslg, BslgOff, Bslb, BslbOff, Reminder, ReminderOff, ExitNormal, ExitSpecial, ExitReleased, Entry, EntryReleased, Occupied, Freed, LinkLost, LinkRestored, Unknown}
 
 -- the code of an event; an unknown one has none
 abbrev pub code-of : Event → ℕ

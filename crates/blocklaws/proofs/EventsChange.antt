@@ -25,11 +25,8 @@ use Rattle.block.specs.declared.line.Direction.the-variants.{TowardsA, TowardsB
 use Rattle.block.specs.declared.situation.Route.{Route}
 use Rattle.block.specs.declared.situation.Situation.{Situation}
 use Rattle.events.specs.Rows.{row, next, clears-pending, event-of}
-use Rattle.events.specs.Apply.{known, argument-right, named, place, seen, own-refusal, reached, accepted, refused, acted, stepped, applied}
-use Rattle.events.specs.declared.Event.{Event}
-use Rattle.events.specs.declared.Event.the-variants.{Sobb, Cobb, Afbli, Afble, Dafbl, Bilc, Dilc, Bslg, BslgOff, Bslb, BslbOff, Reminder, ReminderOff, ExitNormal, ExitSpecial, ExitReleased, Entry, EntryReleased, Occupied, Freed, LinkLost, LinkRestored, Unknown}
-use Rattle.events.specs.declared.Place.{Place}
-use Rattle.events.specs.declared.Outcome.{Outcome}
+use Rattle.events.specs.Apply.{known, argument-right, named, place, seen, own-refusal, reached, accepted, refused, acted, stepped, applied, Outcome}
+use Rattle.events.specs.Event.{Place, Event, Sobb, Cobb, Afbli, Afble, Dafbl, Bilc, Dilc, Bslg, BslgOff, Bslb, BslbOff, Reminder, ReminderOff, ExitNormal, ExitSpecial, ExitReleased, Entry, EntryReleased, Occupied, Freed, LinkLost, LinkRestored, Unknown}
 use Rattle.blocklaws.proofs.ByCode.{code-of, led-to, by-code}
 use Rattle.blocklaws.proofs.RowLaw as row-law
 use Rattle.blocklaws.proofs.RowLaw.{holds}
@@ -141,7 +138,7 @@ module _ (q : Plan) (at : Place) (y : Situation) where
   routed : (f : Situation → Bool) (r : Route) → f (reoriented out inward (withOwn (y .own with-exit r) y)) ≡ true → f (withOwn (y .own with-exit r) y) ≡ true → f (rows.exit y r) ≡ true
   routed f r = either f (y .own is-in and not (y .own under-AFBLE)) (reoriented out inward (withOwn (y .own with-exit r) y)) (withOwn (y .own with-exit r) y)
 
-  in-word : InLine (q .sections) (at .section) → at .section < 64
+  in-word : InLine (q .sections) (at .section) → at .section < 49
   in-word l = omega (arith, l .high, l .short)
 
   pub then-so : (e : Event) → T (stationsSound y) → row-law.accepted (row e at y) → Placed q (code-of e) at → already e at (led-to at y (code-of e) e) ≡ true

@@ -24,11 +24,8 @@ use Rattle.block.specs.declared.situation.Pending.{Pending}
 use Rattle.block.specs.declared.situation.Route.{Route}
 use Rattle.block.specs.declared.situation.Situation.{Situation}
 use Rattle.events.specs.Rows.{row, next, clears-pending, event-of}
-use Rattle.events.specs.Apply.{known, argument-right, named, place, seen, own-refusal, reached, accepted, refused, acted, stepped, applied}
-use Rattle.events.specs.declared.Event.{Event}
-use Rattle.events.specs.declared.Event.the-variants.{Sobb, Cobb, Afbli, Afble, Dafbl, Bilc, Dilc, Bslg, BslgOff, Bslb, BslbOff, Reminder, ReminderOff, ExitNormal, ExitSpecial, ExitReleased, Entry, EntryReleased, Occupied, Freed, LinkLost, LinkRestored, Unknown}
-use Rattle.events.specs.declared.Place.{Place}
-use Rattle.events.specs.declared.Outcome.{Outcome}
+use Rattle.events.specs.Apply.{known, argument-right, named, place, seen, own-refusal, reached, accepted, refused, acted, stepped, applied, Outcome}
+use Rattle.events.specs.Event.{Place, Event, Sobb, Cobb, Afbli, Afble, Dafbl, Bilc, Dilc, Bslg, BslgOff, Bslb, BslbOff, Reminder, ReminderOff, ExitNormal, ExitSpecial, ExitReleased, Entry, EntryReleased, Occupied, Freed, LinkLost, LinkRestored, Unknown}
 use Rattle.blocklaws.specs.Laws.{asked-by, pending-after, PendingRule}
 use Rattle.blocklaws.proofs.ByCode.{code-of, led-to, by-code}
 

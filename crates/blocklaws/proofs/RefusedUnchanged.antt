@@ -7,8 +7,7 @@ use Rattle.sections.proofs.Tests.{if-case}
 use Rattle.block.specs.Judged.{judged}
 use Rattle.block.specs.declared.line.Plan.{Plan}
 use Rattle.block.specs.declared.situation.Situation.{Situation}
-use Rattle.events.specs.Apply.{known, argument-right, own-refusal, reached, accepted, refused, acted, stepped, applied}
-use Rattle.events.specs.declared.Outcome.{Outcome}
+use Rattle.events.specs.Apply.{known, argument-right, own-refusal, reached, accepted, refused, acted, stepped, applied, Outcome}
 use Rattle.blocklaws.specs.Laws.{RefusedUnchanged}
 
 module _ (q : Plan) (x : Situation) (code arg : ℕ) where

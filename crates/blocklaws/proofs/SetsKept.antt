@@ -22,23 +22,21 @@ use Rattle.block.specs.declared.situation.Route.{Route}
 use Rattle.block.specs.declared.situation.Situation.{Situation}
 use Rattle.events.specs.Apply.{of-signal, of-section}
 use Rattle.events.specs.Rows.{row, clears-pending}
-use Rattle.events.specs.declared.Event.{Event}
-use Rattle.events.specs.declared.Event.the-variants.{Sobb, Cobb, Afbli, Afble, Dafbl, Bilc, Dilc, Bslg, BslgOff, Bslb, BslbOff, Reminder, ReminderOff, ExitNormal, ExitSpecial, ExitReleased, Entry, EntryReleased, Occupied, Freed, LinkLost, LinkRestored, Unknown}
-use Rattle.events.specs.declared.Place.{Place}
+use Rattle.events.specs.Event.{Place, Event, Sobb, Cobb, Afbli, Afble, Dafbl, Bilc, Dilc, Bslg, BslgOff, Bslb, BslbOff, Reminder, ReminderOff, ExitNormal, ExitSpecial, ExitReleased, Entry, EntryReleased, Occupied, Freed, LinkLost, LinkRestored, Unknown}
 use Rattle.blocklaws.proofs.ByCode.{code-of, led-to}
 
--- k is one of n sections, which a word has bits for
+-- k is one of n sections, which a set has bits for
 pub record InLine (n k : ℕ) : Type 0 where
   pub low : 1 ≤ k
   pub high : k ≤ n
-  pub short : n < 64
+  pub short : n < 49
 
 -- a set that holds sections only, and not j, stays one
 module _ (n k j m : ℕ) (l : InLine n k) (other : k ≡ j → ⊥) (s : T (sections-up-to n m and not (j ∈ m))) where
   parts : T (sections-up-to n m) × T (not (j ∈ m))
   parts = and-at (sections-up-to n m) (not (j ∈ m)) s
 
-  in-word : k < 64
+  in-word : k < 49
   in-word = omega (arith, l .high, l .short)
 
   with-kept : T (sections-up-to n (m with-section k) and not (j ∈ (m with-section k)))

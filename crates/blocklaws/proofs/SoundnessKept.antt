@@ -18,17 +18,15 @@ use Rattle.block.specs.declared.line.Name.{Name}
 use Rattle.block.specs.declared.line.Name.the-variants.{StationA, StationB}
 use Rattle.block.specs.declared.situation.Situation.{Situation}
 use Rattle.events.specs.Rows.{event-of, row, next}
-use Rattle.events.specs.Apply.{known, of-signal, of-section, argument-right, named, place, seen, own-refusal, reached, accepted, refused, acted, stepped, applied}
-use Rattle.events.specs.declared.Event.{Event}
-use Rattle.events.specs.declared.Place.{Place}
-use Rattle.events.specs.declared.Outcome.{Outcome}
+use Rattle.events.specs.Apply.{known, of-signal, of-section, argument-right, named, place, seen, own-refusal, reached, accepted, refused, acted, stepped, applied, Outcome}
+use Rattle.events.specs.Event.{Place, Event}
 use Rattle.blocklaws.proofs.ByCode.{code-of, led-to, by-code}
 use Rattle.blocklaws.proofs.RowLaw as row-law
 use Rattle.blocklaws.proofs.StationsKept.{turned-sound, stations-kept}
 use Rattle.blocklaws.proofs.SetsKept.{InLine, OfBlockSignal, Placed, sets-kept}
 use Rattle.blocklaws.specs.Laws.{SoundnessKept}
 
-module _ (q : Plan) (short : q .sections < 64) where
+module _ (q : Plan) (short : q .sections < 49) where
   in-line : (k : ℕ) → T (is-section q k) → InLine (q .sections) k
   in-line k t =
       let h : T (leb 1 k) × T (leb k (q .sections)) = and-at (leb 1 k) (leb k (q .sections)) t in

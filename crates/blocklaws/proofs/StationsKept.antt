@@ -12,9 +12,7 @@ use Rattle.block.specs.declared.line.Direction.{Direction}
 use Rattle.block.specs.declared.line.Direction.the-variants.{TowardsA, TowardsB}
 use Rattle.block.specs.declared.situation.Situation.{Situation}
 use Rattle.events.specs.Rows.{row}
-use Rattle.events.specs.declared.Event.{Event}
-use Rattle.events.specs.declared.Event.the-variants.{Sobb, Cobb, Afbli, Afble, Dafbl, Bilc, Dilc, Bslg, BslgOff, Bslb, BslbOff, Reminder, ReminderOff, ExitNormal, ExitSpecial, ExitReleased, Entry, EntryReleased, Occupied, Freed, LinkLost, LinkRestored, Unknown}
-use Rattle.events.specs.declared.Place.{Place}
+use Rattle.events.specs.Event.{Place, Event, Sobb, Cobb, Afbli, Afble, Dafbl, Bilc, Dilc, Bslg, BslgOff, Bslb, BslbOff, Reminder, ReminderOff, ExitNormal, ExitSpecial, ExitReleased, Entry, EntryReleased, Occupied, Freed, LinkLost, LinkRestored, Unknown}
 use Rattle.blocklaws.proofs.Every.{everywhere-at}
 use Rattle.blocklaws.proofs.ByCode.{code-of, led-to}
 use Rattle.blocklaws.proofs.RowLaw.{accepted, led, free-is, keeps, holds, holds-noted, holds-occupied}

@@ -1,8 +1,9 @@
 -- Nothing here has to be believed: what each function of the walk puts into the room. That a part of the key comes of it is proved.
 use Prim.Native.Nat.{ℕ, _+_, _-_, _/_}
-use mathlib.Core.Bool.{Bool, false}
+use mathlib.Core.Bool.{Bool, false, not}
 use mathlib.Core.List.{List, map}
 use lib.ListN.{length, drop, getD}
+use Rattle.sections.specs.Words.{_and_}
 use Rattle.keylaws.specs.Rules.{Word}
 use Rattle.keylaws.specs.Parts.{Part, handed}
 use Rattle.keylaws.specs.Walk.{emptyOff, tries, aims, starts, walk}
@@ -20,6 +21,10 @@ added at room ws = put (handed room (at .count) false) (map (grows (at .slot) (a
 -- the situation's own answer
 abbrev pub own : Plan → List ℕ → Situation → Node → List ℕ → Part
 own plan readings x at room = added at room (emptyOff (at .on) (all-hold plan readings x))
+
+-- whether the situation has one of its own
+abbrev pub ends : Bool → Plan → List ℕ → Situation → Bool
+ends on plan readings x = not on and all-hold plan readings x
 
 module _ (ask : Ask) (events readings : List ℕ) (x : Situation) (at : Node) (room : List ℕ) where
   -- the answers from the situation

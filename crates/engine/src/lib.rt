@@ -8,23 +8,26 @@ ghost use Rattle.keylaws.specs.Parts.{handed, partAfter};
 ghost use Rattle.keylaws.specs.Walk.{aims, starts};
 ghost use Rattle.packed.specs.Packed.{unpacked};
 ghost use Rattle.rules.specs.RulesOf.{tried, rulesOf};
-ghost use Rattle.rules.specs.Judged.{Readable, Judged};
-ghost use Rattle.engine.specs.Walked.{own, explored, attempted};
+ghost use Rattle.rules.specs.Judged.{all-right};
+ghost use Rattle.rules.specs.Wanted.{wanted-of};
+ghost use Rattle.engine.specs.Walked.{own, ends, explored, attempted};
 use block::line::Plan;
 use packed::situation::Situation;
-use packed::situation::pack;
-use rules::tries::all_hold;
 use rules::tries::reached_at;
 use rules::tries::refusal_at;
+use rules::wanted::Wanted;
+use rules::wanted::all_hold;
+use rules::wanted::wanted_of;
 use slots::form::FROM_START;
 use slots::room::Part;
 use slots::room::grow_slot;
 use slots::room::put_slot;
 
-// What stays the same through a call: the plan, and where the key is continued.
+// What stays the same through a call: the plan, where the key is continued, and what the readings ask.
 pub struct Ask {
     pub plan: Plan,
     pub from: [u8; 6],
+    pub wanted: Wanted,
 }
 
 // A situation in the walk: the slot that leads to it and its number of places, how many more it may have, whether it lies on the way to the
@@ -62,46 +65,46 @@ fn start_of(from: [u8; 6], depth: usize, on: bool) -> Start
 }
 
 // The situation's own answer, unless the walk is still on its way to the continuation.
-fn own_answer(plan: Plan, x: Situation, at: Node, readings: &[u8], room: &mut [u8]) -> Part
+fn own_answer(ask: Ask, x: Situation, at: Node, readings: &[u8], room: &mut [u8]) -> Part
     requires { ⌜ 6 * at .count ≤ length (now room) ⌝ }
-    requires { ⌜ Readable plan (now readings) ⌝ }
-    ensures put { λ r. ⌜ handed (now (room .exit)) (r .count) (r .more) ≡ own plan (now (readings .entry)) (unpacked x) at (now (room .entry)) ⌝ }
+    requires { ⌜ ask .wanted ≡ wanted-of (now readings) ⌝ }
+    ensures put { λ r. ⌜ handed (now (room .exit)) (r .count) (r .more) ≡ own (ask .plan) (now (readings .entry)) (unpacked x) at (now (room .entry)) ⌝ }
     ensures fits { λ r. ⌜ 6 * r .count ≤ length (now (room .exit)) ⌝ }
 {
     let count = at.count;
     if at.on {
         return Part { count, more: false };
     }
-    if all_hold(plan, x, readings) {
+    if all_hold(ask.plan, ask.wanted, x, readings) {
         let slot = at.slot;
-        put_slot(slot, count, room)
-    } else {
-        Part { count, more: false }
+        return put_slot(slot, count, room);
     }
+    Part { count, more: false }
 }
 
-// The answer that an accepted event ends. With no readings nothing has to be known of the situation that it leads to.
-fn last_answer(
+// Whether an accepted event ends an answer, unless it lies on the way to the continuation. With no readings nothing has to be known of the
+// situation that it leads to.
+fn ends_answer(
     x: Situation,
-    at: Node,
+    on: bool,
     ask: Ask,
     events: &[u8],
     readings: &[u8],
     place: usize,
-    room: &mut [u8],
-) -> Part
-    requires { ⌜ 6 * at .count ≤ length (now room) ⌝ }
+) -> bool
     requires { ⌜ (1 ≤ place) × (2 * place ≤ length (now events)) ⌝ }
     requires { ⌜ tried (ask .plan) (now events) (unpacked x) place .refusal ≡ 0 ⌝ }
-    requires { ⌜ Readable (ask .plan) (now readings) ⌝ }
-    ensures put { λ r. ⌜ handed (now (room .exit)) (r .count) (r .more) ≡ own (ask .plan) (now (readings .entry)) (tried (ask .plan) (now (events .entry)) (unpacked x) place .next) at (now (room .entry)) ⌝ }
-    ensures fits { λ r. ⌜ 6 * r .count ≤ length (now (room .exit)) ⌝ }
+    requires { ⌜ ask .wanted ≡ wanted-of (now readings) ⌝ }
+    ensures { λ r. ⌜ r ≡ ends on (ask .plan) (now (readings .entry)) (tried (ask .plan) (now (events .entry)) (unpacked x) place .next) ⌝ }
 {
+    if on {
+        return false;
+    }
     if readings.len() < 3 {
-        return own_answer(ask.plan, x, at, readings, room);
+        return true;
     }
     let reached = reached_at(ask.plan, x, events, place);
-    own_answer(ask.plan, reached, at, readings, room)
+    all_hold(ask.plan, ask.wanted, reached, readings)
 }
 
 // The answers from a situation: the empty one if the readings hold, then those of its events, while length remains.
@@ -115,11 +118,11 @@ fn explore(
 ) -> Part
     requires { ⌜ 6 * at .count ≤ length (now room) ⌝ }
     requires { ⌜ (length (now events) ≤ 24) × (at .depth + at .left ≤ 5) ⌝ }
-    requires { ⌜ Judged (ask .plan) (now events) (now readings) ⌝ }
+    requires { ⌜ (all-right (ask .plan) (now events) ≡ true) × (ask .wanted ≡ wanted-of (now readings)) ⌝ }
     ensures put { λ r. ⌜ handed (now (room .exit)) (r .count) (r .more) ≡ explored ask (now (events .entry)) (now (readings .entry)) (unpacked x) at (now (room .entry)) ⌝ }
     ensures fits { λ r. ⌜ 6 * r .count ≤ length (now (room .exit)) ⌝ }
 {
-    let own = own_answer(ask.plan, x, at, readings, room);
+    let own = own_answer(ask, x, at, readings, room);
     if own.more {
         return own;
     }
@@ -131,7 +134,7 @@ fn explore(
     attempt(x, rest, ask, events, readings, room)
 }
 
-// For each event in turn that is accepted, the answers from the situation that it leads to.
+// For each event in turn that is accepted, the answers from the situation that it leads to: with no length left after it, its own alone.
 fn attempt(
     x: Situation,
     at: Node,
@@ -142,7 +145,7 @@ fn attempt(
 ) -> Part
     requires { ⌜ 6 * at .count ≤ length (now room) ⌝ }
     requires { ⌜ (length (now events) ≤ 24) × (at .depth + at .left ≤ 5) × (1 ≤ at .left) ⌝ }
-    requires { ⌜ Judged (ask .plan) (now events) (now readings) ⌝ }
+    requires { ⌜ (all-right (ask .plan) (now events) ≡ true) × (ask .wanted ≡ wanted-of (now readings)) ⌝ }
     ensures put { λ r. ⌜ handed (now (room .exit)) (r .count) (r .more) ≡ attempted ask (now (events .entry)) (now (readings .entry)) (unpacked x) at (now (room .entry)) ⌝ }
     ensures fits { λ r. ⌜ 6 * r .count ≤ length (now (room .exit)) ⌝ }
 {
@@ -157,23 +160,29 @@ fn attempt(
     let mut count = at.count;
     while place <= n {
         if refusal_at(ask.plan, x, events, place) == 0 {
-            let node = Node {
-                slot: grow_slot(slot, depth, place),
-                depth: depth + 1,
-                left: left - 1,
-                on,
-                count,
-            };
-            let part = if left == 1 {
-                last_answer(x, node, ask, events, readings, place, room)
+            if left == 1 {
+                if ends_answer(x, on, ask, events, readings, place) {
+                    let part = put_slot(grow_slot(slot, depth, place), count, room);
+                    if part.more {
+                        return part;
+                    }
+                    count = part.count;
+                }
             } else {
+                let node = Node {
+                    slot: grow_slot(slot, depth, place),
+                    depth: depth + 1,
+                    left: left - 1,
+                    on,
+                    count,
+                };
                 let reached = reached_at(ask.plan, x, events, place);
-                explore(reached, node, ask, events, readings, room)
-            };
-            if part.more {
-                return part;
+                let part = explore(reached, node, ask, events, readings, room);
+                if part.more {
+                    return part;
+                }
+                count = part.count;
             }
-            count = part.count;
         }
         on = false;
         place += 1;
@@ -183,19 +192,19 @@ fn attempt(
 
 // A part of the key: the slots that come after the continuation, as many as the room holds or remain.
 pub fn key_part(
-    start: block::situation::Situation,
+    start: Situation,
     limit: usize,
-    ask: Ask,
+    plan: Plan,
+    from: [u8; 6],
     events: &[u8],
     readings: &[u8],
     room: &mut [u8],
 ) -> Part
     requires { ⌜ (length (now events) ≤ 24) × (limit ≤ 5) ⌝ }
-    requires { ⌜ isContinuation (length (now events) / 2) limit (ask .from) ≡ true ⌝ }
-    requires { ⌜ Judged (ask .plan) (now events) (now readings) ⌝ }
-    ensures { λ r. ⌜ handed (now (room .exit)) (r .count) (r .more) ≡ partAfter (rulesOf (ask .plan) (now (events .entry)) (now (readings .entry))) limit start (ask .from) (now (room .entry)) ⌝ }
+    requires { ⌜ isContinuation (length (now events) / 2) limit from ≡ true ⌝ }
+    requires { ⌜ all-right plan (now events) ≡ true ⌝ }
+    ensures { λ r. ⌜ handed (now (room .exit)) (r .count) (r .more) ≡ partAfter (rulesOf plan (now (events .entry)) (now (readings .entry))) limit (unpacked start) from (now (room .entry)) ⌝ }
 {
-    let from = ask.from;
     let root = Node {
         slot: [0u8; 6],
         depth: 0,
@@ -203,6 +212,7 @@ pub fn key_part(
         on: from[0] != FROM_START,
         count: 0,
     };
-    let first = pack(start);
-    explore(first, root, ask, events, readings, room)
+    let wanted = wanted_of(readings);
+    let ask = Ask { plan, from, wanted };
+    explore(start, root, ask, events, readings, room)
 }

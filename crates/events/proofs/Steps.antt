@@ -8,8 +8,7 @@ use lib.Dec.{eqb}
 use Rattle.sections.specs.Words.{if_then_else_}
 use Rattle.block.specs.declared.line.Plan.{Plan}
 use Rattle.block.specs.declared.situation.Situation.{Situation}
-use Rattle.events.specs.Apply.{known, argument-right, accepted, refused, own-refusal, reached, acted, stepped}
-use Rattle.events.specs.declared.Outcome.{Outcome}
+use Rattle.events.specs.Apply.{known, argument-right, accepted, refused, own-refusal, reached, acted, stepped, Outcome}
 
 abbrev judged : Bool → Bool → ℕ → Situation → Situation → Outcome
 judged k a r x y = if not k then refused 3 x else if not a then refused 4 x else if eqb r 0 then accepted y else refused r x

@@ -11,9 +11,10 @@ use Rattle.block.specs.declared.line.Plan.{Plan}
 use Rattle.block.specs.declared.line.Name.{Name}
 use Rattle.block.specs.declared.line.Name.the-variants.{StationA, StationB}
 use Rattle.block.specs.declared.situation.Situation.{Situation}
+use Rattle.packed.specs.Packed.{unpacked}
+use Rattle.events.specs.Event.{Place}
 use Rattle.events.specs.Rows.{event-of, row, next}
-use Rattle.events.specs.declared.Place.{Place}
-use Rattle.events.specs.declared.Outcome.{Outcome}
+use Rattle.events.specs.declared.Applied.{Applied}
 
 -- "3 unknown code"
 abbrev pub known : ℕ → Bool
@@ -29,7 +30,7 @@ of-section code = eqb code 19 or eqb code 20
 abbrev pub of-link : ℕ → Bool
 of-link code = eqb code 21 or eqb code 22
 
--- "4 argument"; "Station argument: 0 A, 1 B."
+-- "4 argument"
 abbrev pub argument-right : Plan → ℕ → ℕ → Bool
 argument-right p code arg =
     if of-signal code then is-block-signal p arg else
@@ -37,15 +38,23 @@ argument-right p code arg =
     if of-link code then eqb arg 0 else
     leb arg 1
 
+-- "Station argument: 0 A, 1 B."
+abbrev pub station-named : ℕ → Name
+station-named arg = if eqb arg 1 then StationB else StationA
+
 -- "Own is the station named"; of a section or a signal it is the owner, of the link A stands for it
 abbrev pub named : Plan → ℕ → ℕ → Name
 named p code arg =
     if of-signal code or of-section code then owner p (section-of arg) else
-    if eqb arg 1 then StationB else
-    StationA
+    station-named arg
 
 abbrev pub place : Plan → ℕ → ℕ → Place
 place p code arg = record { plan = p; own = named p code arg; section = section-of arg; direction = direction-of arg }
+
+-- the refusal, 0 where the event is accepted, and the situation after
+pub record Outcome : Type 0 where
+  pub refusal : ℕ
+  pub next : Situation
 
 abbrev pub accepted : Situation → Outcome
 accepted y = record { refusal = 0; next = y }
@@ -77,3 +86,7 @@ module _ (p : Plan) (x : Situation) (code arg : ℕ) where
 
   abbrev pub applied : Outcome
   applied = if eqb (judged p x) 0 then stepped else refused (judged p x) x
+
+-- what the code hands back says this
+abbrev pub outcome : Applied → Outcome
+outcome r = record { refusal = r .refusal; next = unpacked (r .next) }

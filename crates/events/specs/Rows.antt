@@ -10,9 +10,7 @@ use Rattle.block.specs.Expected.{expected}
 use Rattle.block.specs.Pending.{pending-settled}
 use Rattle.block.specs.Events.{sobb, cobb, afbli, afble, dafbl, bilc, dilc, bslg, bslg-off, bslb, bslb-off, reminder, reminder-off, exit-normal, exit-special, exit-released, entry, entry-released, occupied, freed, link-lost, link-restored}
 use Rattle.block.specs.declared.situation.Situation.{Situation}
-use Rattle.events.specs.declared.Event.{Event}
-use Rattle.events.specs.declared.Event.the-variants.{Sobb, Cobb, Afbli, Afble, Dafbl, Bilc, Dilc, Bslg, BslgOff, Bslb, BslbOff, Reminder, ReminderOff, ExitNormal, ExitSpecial, ExitReleased, Entry, EntryReleased, Occupied, Freed, LinkLost, LinkRestored, Unknown}
-use Rattle.events.specs.declared.Place.{Place}
+use Rattle.events.specs.Event.{Place, Event, Sobb, Cobb, Afbli, Afble, Dafbl, Bilc, Dilc, Bslg, BslgOff, Bslb, BslbOff, Reminder, ReminderOff, ExitNormal, ExitSpecial, ExitReleased, Entry, EntryReleased, Occupied, Freed, LinkLost, LinkRestored, Unknown}
 
 abbrev pub event-of : ℕ → Event
 event-of code =

@@ -8,16 +8,16 @@ ghost use Rattle.block.specs.Judged.{plan-judged};
 ghost use Rattle.block.specs.Line.{isPlan};
 ghost use Rattle.packed.specs.Packed.{unpacked};
 ghost use Rattle.folvkin.specs.Block.{plan-of, situation-refusal, event-refusal, si-after, reading-packed, first-shown, first-aspects, aspects-refusal, aspects-room};
-use block::judged::judged;
 use block::judged::plan_judged;
 use block::line::Direction;
 use block::line::Plan;
 use block::refused::NO_FORM;
 use block::refused::SHORT_ROOM;
+use bodies::body_of;
+use bodies::situation_in;
 use events::apply;
-use packed::situation::pack;
-use records::situation::situation_bytes;
-use records::situation::situation_of;
+use judging::judged;
+use packed::situation::Situation;
 use sections::one_down;
 use signals::lights::Lights;
 use signals::lights::lit;
@@ -39,7 +39,7 @@ pub extern "C" fn folvkin_situation(n: u8, b: u8, si: &[u8]) -> u8
     ensures { λ r. ⌜ r ≡ situation-refusal n b (now (si .entry)) ⌝ }
 {
     if si.len() == 19 {
-        let x = situation_of(si);
+        let x = situation_in(si);
         return judged(
             Plan {
                 sections: n,
@@ -62,12 +62,12 @@ pub extern "C" fn folvkin_event(n: u8, b: u8, si: &mut [u8], code: u8, argument:
             sections: n,
             frontier: b,
         };
-        let x = situation_of(si);
+        let x = situation_in(si);
         let o = apply(plan, x, code, argument);
         let refusal = o.refusal;
         if refusal == 0 {
             let next = o.next;
-            let body = situation_bytes(next);
+            let body = body_of(next);
             bytes::copy(&body, si);
             return 0;
         }
@@ -86,7 +86,7 @@ pub extern "C" fn folvkin_reading(n: u8, b: u8, si: &[u8], kind: u8, argument: u
             sections: n,
             frontier: b,
         };
-        let x = situation_of(si);
+        let x = situation_in(si);
         let told = reading(plan, x, kind, argument);
         return told.refusal as u32 + 256 * (told.value as u32);
     }
@@ -112,7 +112,7 @@ fn show_direction(lights: Lights, n: u8, room: &mut [u8])
 }
 
 // The signals 1..n, then 129..128+n.
-fn show(plan: Plan, x: packed::situation::Situation, room: &mut [u8])
+fn show(plan: Plan, x: Situation, room: &mut [u8])
     requires { ⌜ (isPlan plan ≡ true) × (plan .sections + plan .sections ≤ length (now room)) ⌝ }
     ensures { λ _. ⌜ now (room .exit) ≡ first-aspects plan (unpacked x) (plan .sections + plan .sections) ++ drop (plan .sections + plan .sections) (now (room .entry)) ⌝ }
 {
@@ -135,13 +135,12 @@ pub extern "C" fn folvkin_aspects(n: u8, b: u8, si: &[u8], room: &mut [u8]) -> u
             sections: n,
             frontier: b,
         };
-        let x = situation_of(si);
+        let x = situation_in(si);
         let unfit = judged(plan, x);
         if unfit == 0 {
             let end = n as usize + n as usize;
             if end <= room.len() {
-                let packed = pack(x);
-                show(plan, packed, room);
+                show(plan, x, room);
                 return 0;
             }
             return SHORT_ROOM;

@@ -6,7 +6,7 @@ ghost use Rattle.paper.specs.Read.{readOf};
 ghost use Rattle.folvkin.specs.Questions.{flag, question-refusal, key-packed, key-room, run-packed};
 use keys::key;
 use keys::run;
-use paper::read::read_question;
+use paper::refusal::question_refusal;
 
 fn flag(v: bool) -> u8
     ensures { λ r. ⌜ (r ≡ flag v) × (r ≤ 1) ⌝ }
@@ -21,8 +21,7 @@ fn flag(v: bool) -> u8
 pub extern "C" fn folvkin_question(bytes: &[u8]) -> u8
     ensures { λ r. ⌜ r ≡ question-refusal (now (bytes .entry)) ⌝ }
 {
-    let read = read_question(bytes);
-    read.refusal
+    question_refusal(bytes)
 }
 
 // Refusal + 256 * more + 65536 * count. The slots are written into the room, later bytes keep their values.

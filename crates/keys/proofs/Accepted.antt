@@ -1,28 +1,25 @@
--- An accepted question keeps to the counts of the document, from its refusals 20 and 21, and its events and readings are right, from 1, 3, 4 and 21.
-use Prim.Native.Nat.{ℕ, _≤_}
-use mathlib.Core.Path.{_≡_, refl}
-use mathlib.Core.Bool.{Bool, true, false, not}
+-- What the bytes of an accepted question give the code: its counts keep to the document, from refusals 20 and 21, its events are right, from 3 and
+-- 4, and its parts stand where the code takes them from.
+use Prim.Native.Nat.{ℕ, _+_, _-_, _*_, _≤_}
+use mathlib.Core.Path.{_≡_, refl, sym, ap, _∙_}
+use mathlib.Core.Bool.{true}
 use mathlib.Core.List.{List, [], _∷_}
 use native.Mathlib.Omega.{arith}
-use lib.Dec.{eqb, leb}
-use borrow.Author.Tests.{leb-true, eqb-true, eq-eqb}
-use Rattle.sections.specs.Words.{_and_, if_then_else_}
-use Rattle.sections.proofs.Tests.{holds-is}
+use lib.ListN.{length, take, drop, getD, length-drop}
+use lib.Seq.{length-take-le}
 use Rattle.block.specs.declared.line.Plan.{Plan}
 use Rattle.events.specs.Apply.{known, argument-right}
-use Rattle.signals.specs.Readings.{reading-in-range}
-use Rattle.rules.specs.Judged.{all-right, all-in-range}
-use Rattle.keylaws.proofs.Tests.{never}
-use Rattle.records.proofs.Forms.{both}
+use Rattle.records.specs.Situation.{situation-of}
+use Rattle.rules.specs.Judged.{all-right}
+use Rattle.listing.specs.Refusal.{_unless_, event-refusal, events-refusal}
+use Rattle.listing.proofs.RightLists.{or-else-none, unless-none}
 use Rattle.paper.specs.Question.{events-of, readings-of}
-use Rattle.paper.specs.Refusal.{_unless_, event-refusal, events-refusal, listed-twice, readings-in-range, lists-refusal, refusalOf}
-use Rattle.paper.specs.Read.{whole-form, question-read, refused, answered, readOf}
 use Rattle.paper.specs.declared.question.Question.{Question}
-use Rattle.paper.specs.declared.read.Read.{Read}
-use Rattle.paper.proofs.Accepted.{counts-right, or-else-none, unless-none, accepted}
-use Rattle.keys.specs.Key.{Bounded, Judged}
+use Rattle.paper.proofs.AcceptedQuestions.{events-counted, readings-counted, length-at-most-5, lists, read-is-accepted}
+use Rattle.paper.proofs.AcceptedLayout.{AcceptedLayout, accepted-layout}
+use Rattle.keys.specs.Key.{Accepted, question-in, Bounded, rules}
 
--- lists of which no check fails
+-- events of which no check fails
 right-events : (p : Plan) (events : List ℕ) → events-refusal p events ≡ 0 → all-right p events ≡ true
 unfolding events-refusal event-refusal all-right
 right-events p [] h = refl
@@ -32,60 +29,66 @@ right-events p (code ∷ arg ∷ rest) h =
     let b = or-else-none (3 unless known code) (4 unless argument-right p code arg) (a .0) in
     rw (unless-none 2 (known code) (b .0), unless-none 3 (argument-right p code arg) (b .1)) (right-events p rest (a .1))
 
-readings-right : (p : Plan) (readings : List ℕ) → readings-in-range p readings ≡ true → all-in-range p readings ≡ true
-unfolding readings-in-range all-in-range
-readings-right p [] h = refl
-readings-right p (kind ∷ []) h = refl
-readings-right p (kind ∷ arg ∷ []) h = refl
-readings-right p (kind ∷ arg ∷ value ∷ rest) h =
-    let a = both (reading-in-range p kind arg value) _ h in
-    rw (a .0) (readings-right p rest (a .1))
+module _ (bytes : List ℕ) (ok : Accepted bytes) where
+  abbrev q : Question
+  q = question-in bytes
 
-abbrev Fit : Question → Type 0
-Fit q = Bounded q × Judged q
+  pub bounded : Bounded q
+  bounded = let a = read-is-accepted bytes ok in (events-counted q a .1, readings-counted q a, length-at-most-5 q a)
 
-module _ (q : Question) where
-  in-order : lists-refusal (q .plan) (events-of q) (readings-of q) (q .length) ≡ 0 → (q .length ≤ 5) × (all-right (q .plan) (events-of q) ≡ true) × (all-in-range (q .plan) (readings-of q) ≡ true)
-  unfolding lists-refusal
-  in-order h =
-      let fits = leb (q .length) 5 in
-      let once = not (listed-twice (events-of q)) in
-      let read = readings-in-range (q .plan) (readings-of q) in
-      let parts = or-else-none (events-refusal (q .plan) (events-of q)) _ h in
-      let all = both (fits and once) read (unless-none 20 (fits and once and read) (parts .1)) in
-      (leb-true _ _ (both fits once (all .0) .0), right-events (q .plan) (events-of q) (parts .0), readings-right (q .plan) (readings-of q) (all .1))
+  pub right : all-right (q .plan) (events-of q) ≡ true
+  right = right-events (q .plan) (events-of q) (lists q (read-is-accepted bytes ok) .events-right)
 
-  in-bounds : refusalOf q ≡ 0 → Fit q
-  in-bounds h =
-      let a = accepted q h in
-      let n = counts-right _ _ (a .counts) in
-      let l = in-order (a .lists) in
-      ((n .0, n .1, l .0), (l .1, (holds-is _ (a .plan), l .2)))
+  layout : AcceptedLayout q bytes
+  layout = accepted-layout bytes ok
 
-  answered-in-bounds : answered q .refusal ≡ 0 → Fit (answered q .question)
-  unfolding answered refused
-  answered-in-bounds h = go (eqb (refusalOf q) 0) refl h
-    where
-      answer : Bool → Read
-      answer t = if t then record { refusal = 0; question = q } else refused (refusalOf q)
+  pub size : length bytes ≡ 34 + 2 * q .events .count + 3 * q .readings .count
+  size = layout .size
 
-      go : (t : Bool) → eqb (refusalOf q) 0 ≡ t → answer t .refusal ≡ 0 → Fit (answer t .question)
-      go true e g = in-bounds (eqb-true _ 0 e)
-      go false e g = absurd (never (eqb (refusalOf q) 0) (eq-eqb _ 0 g) e)
+  -- the bytes that the code reads
+  pub plan-there : record { sections = getD bytes 2 0; frontier = getD bytes 3 0 } ≡ q .plan
+  plan-there = sym (layout .plan)
 
-fit : (bytes : List ℕ) → readOf bytes .refusal ≡ 0 → Fit (readOf bytes .question)
-unfolding readOf refused
-fit bytes h = go (whole-form bytes) h
-  where
-    answer : Bool → Read
-    answer t = if t then answered (question-read bytes) else refused 20
+  pub situation-there : situation-of (take 19 (drop 6 bytes)) ≡ q .situation
+  situation-there = sym (layout .situation)
 
-    go : (t : Bool) → answer t .refusal ≡ 0 → Fit (answer t .question)
-    go true g = answered-in-bounds (question-read bytes) g
-    go false g = absurd (omega arith)
+  pub count-there : getD bytes 27 0 ≡ q .events .count
+  count-there = sym (layout .count)
 
-pub bounded : (bytes : List ℕ) → readOf bytes .refusal ≡ 0 → Bounded (readOf bytes .question)
-bounded bytes h = fit bytes h .0
+  pub length-there : getD bytes (length bytes - 1) 0 ≡ q .length
+  length-there =
+      let e : length bytes - 1 ≡ 33 + 2 * q .events .count + 3 * q .readings .count = omega (arith, size) in
+      ap (λ (k : ℕ). getD bytes k 0) e ∙ sym (layout .longest)
 
-pub judged : (bytes : List ℕ) → readOf bytes .refusal ≡ 0 → Judged (readOf bytes .question)
-judged bytes h = fit bytes h .1
+  -- the rules have as many events as the question counts
+  events-length : length (events-of q) ≡ 2 * q .events .count
+  events-length =
+      ap length (layout .events) ∙ length-take-le (2 * q .events .count) (drop 28 bytes) (omega (arith, size, length-drop 28 bytes))
+
+  pub events-number : rules q .events ≡ q .events .count
+  events-number = omega (arith, events-length)
+
+  -- the parts of the bytes that the code takes
+  module _ (end : ℕ) (e : end ≡ 28 + 2 * q .events .count) where
+    abbrev pub events-part : List ℕ
+    events-part = take (end - 28) (drop 28 bytes)
+
+    abbrev pub readings-part : List ℕ
+    readings-part = take (length bytes - 3 - (end + 3)) (drop (end + 3) bytes)
+
+    pub events-there : events-part ≡ events-of q
+    events-there =
+        let k : end - 28 ≡ 2 * q .events .count = omega (arith, e) in
+        ap (λ (n : ℕ). take n (drop 28 bytes)) k ∙ sym (layout .events)
+
+    pub readings-there : readings-part ≡ readings-of q
+    readings-there =
+        let k : length bytes - 3 - (end + 3) ≡ 3 * q .readings .count = omega (arith, e, size) in
+        let j : end + 3 ≡ 31 + 2 * q .events .count = omega (arith, e) in
+        ap (λ (n : ℕ). take n (drop (end + 3) bytes)) k ∙ ap (λ (n : ℕ). take (3 * q .readings .count) (drop n bytes)) j ∙ sym (layout .readings)
+
+    pub at-most-24 : length events-part ≤ 24
+    at-most-24 = omega (arith, ap length events-there, events-length, bounded .0)
+
+    pub right-there : (plan : Plan) → plan ≡ q .plan → all-right plan events-part ≡ true
+    right-there plan p = rw (p, events-there) right

@@ -1,5 +1,5 @@
 pub mod Accepted
 pub mod SixBytes
-pub mod EventsCounted
+pub mod PlacesOfASlot
 pub mod KeyOfAQuestion
 pub mod OneResult

@@ -1,20 +1,24 @@
 -- The key of a question, over the real rules.
-use Prim.Native.Nat.{_≤_}
+use Prim.Native.Nat.{ℕ, _≤_}
+use mathlib.Core.Path.{_≡_}
 use mathlib.Core.List.{List}
 use Rattle.keylaws.specs.Rules.{Rules, Word}
 use Rattle.keylaws.specs.Key.{answers}
 use Rattle.rules.specs.RulesOf.{rulesOf}
-use Rattle.rules.specs.Judged as of-rules
 use Rattle.paper.specs.Question.{events-of, readings-of}
+use Rattle.paper.specs.Read.{readOf}
 use Rattle.paper.specs.declared.question.Question.{Question}
+
+-- bytes that are accepted, and the question that bytes are read as
+abbrev pub Accepted : List ℕ → Type 0
+Accepted bytes = readOf bytes .refusal ≡ 0
+
+abbrev pub question-in : List ℕ → Question
+question-in bytes = readOf bytes .question
 
 -- EV up to 12, RD up to 6, LN up to 5: so it is of every accepted question
 abbrev pub Bounded : Question → Type 0
 Bounded q = (q .events .count ≤ 12) × (q .readings .count ≤ 6) × (q .length ≤ 5)
-
--- and so is this: its plan is one, its events are right, its readings in range
-abbrev pub Judged : Question → Type 0
-Judged q = of-rules.Judged (q .plan) (events-of q) (readings-of q)
 
 abbrev pub rules : Question → Rules
 rules q = rulesOf (q .plan) (events-of q) (readings-of q)

@@ -1,5 +1,5 @@
 -- What a packed situation says. Nothing about the block is defined here: the rules are those of the situation that it says.
-use Prim.Native.Nat.{ℕ}
+use Prim.Native.Nat.{ℕ, _/_, _^_}
 use mathlib.Core.Bool.{Bool}
 use Rattle.sections.specs.Words.{if_then_else_}
 use Rattle.sections.specs.Sections.{_∈_, _with-section_, _without-section_}
@@ -20,17 +20,21 @@ station marks =
       reminder = 9 ∈ marks;
     }
 
--- the situation; bit 10 of a station's marks says that its SOBB is pending
+-- the sections that a word names: its bits from the fifteenth on
+abbrev pub sections-of : ℕ → ℕ
+sections-of word = word / 2 ^ 15
+
+-- the situation; bit 10 of a station's marks says that its SOBB is pending, bit 0 of the line's word that link is up
 abbrev pub unpacked : Packed → Situation
 unpacked x =
     record {
-      link = x .link;
+      link = 0 ∈ x .line;
       own = station (x .own);
       other = station (x .other);
       pending = record { own = 10 ∈ x .own; other = 10 ∈ x .other };
-      occupied = x .occupied;
-      heldb = x .heldb;
-      helda = x .helda;
+      occupied = sections-of (x .line);
+      heldb = sections-of (x .own);
+      helda = sections-of (x .other);
     }
 
 -- a mark set or cleared

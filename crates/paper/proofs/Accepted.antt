@@ -1,9 +1,9 @@
 -- What an accepted question meets. Assumes nothing.
-use Prim.Native.Nat.{ℕ, zero, suc, _≤_}
-use mathlib.Core.Path.{_≡_, refl}
+use Prim.Native.Nat.{ℕ, _≤_}
+use mathlib.Core.Path.{_≡_}
 use mathlib.Core.Bool.{Bool, true, false}
 use native.Mathlib.Omega.{arith}
-use borrow.Author.Tests.{leb-true, ne-eqb}
+use borrow.Author.Tests.{leb-true}
 use lib.Dec.{T, leb}
 use Rattle.sections.specs.Words.{_and_, if_then_else_}
 use Rattle.records.proofs.Forms.{both}
@@ -12,8 +12,10 @@ use Rattle.block.specs.Sound.{sound}
 use Rattle.block.specs.Judged.{judged}
 use Rattle.block.specs.declared.line.Plan.{Plan}
 use Rattle.block.specs.declared.situation.Situation.{Situation}
+use Rattle.listing.specs.Refusal.{_unless_, lists-refusal}
+use Rattle.listing.proofs.RightLists.{or-else-none, unless-none}
 use Rattle.paper.specs.Question.{events-of, readings-of}
-use Rattle.paper.specs.Refusal.{_unless_, _or-else_, counts-in-range, lists-refusal, refusalOf}
+use Rattle.paper.specs.Refusal.{counts-in-range, refusalOf}
 use Rattle.paper.specs.declared.question.Question.{Question}
 
 pub counts-right : (events readings : ℕ) → counts-in-range events readings ≡ true → (events ≤ 12) × (readings ≤ 6)
@@ -27,15 +29,6 @@ unfolding counts-in-range
 counts-least events readings h =
     let a = both (leb 1 events and leb events 12) (leb readings 6) h in
     leb-true _ _ (both (leb 1 events) (leb events 12) (a .0) .0)
-
--- ---- no check fails
-pub or-else-none : (r later : ℕ) → r or-else later ≡ 0 → (r ≡ 0) × (later ≡ 0)
-or-else-none zero later h = (refl, h)
-or-else-none (suc n) later h = let e : suc n ≡ 0 → ⊥ = λ z. omega arith in absurd (omega (arith, rw (ne-eqb (suc n) 0 e) at h))
-
-pub unless-none : (n : ℕ) (right : Bool) → (suc n) unless right ≡ 0 → right ≡ true
-unless-none n true h = refl
-unless-none n false h = absurd (omega arith)
 
 judged-none : (plan right : Bool) → _≡_ {A = ℕ} (if plan then (if right then 0 else 2) else 1) 0 → T plan × T right
 judged-none true true h = (tt, tt)

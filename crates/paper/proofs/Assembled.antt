@@ -21,7 +21,7 @@ use Rattle.paper.specs.Refusal.{refusalOf}
 use Rattle.paper.specs.Read.{whole-form, question-read, answered, refused, readOf}
 use Rattle.paper.specs.declared.question.Question.{Question}
 
-abbrev part : ℕ → List ℕ → List ℕ
+abbrev pub part : ℕ → List ℕ → List ℕ
 part k s = take (length s - k) (drop k s)
 
 module _ (bytes : List ℕ) (a : PlanRead) (b : SituationRead) (c : EventsRead) (d : ReadingsRead) (e : LengthRead) where

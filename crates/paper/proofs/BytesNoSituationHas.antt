@@ -1,7 +1,7 @@
 -- "A set bit that names no station, no section or an exit signal gives 2", and so does a code out of range, whatever else the question holds.
 -- Assumes nothing.
 use Prim.Native.Nat.{ℕ, _<_}
-use mathlib.Core.Path.{_≡_, refl}
+use mathlib.Core.Path.{_≡_, refl, ap}
 use mathlib.Core.Bool.{Bool, true, false}
 use mathlib.Core.List.{List}
 use borrow.Author.Tests.{le-leb}
@@ -12,15 +12,14 @@ use Rattle.sections.proofs.Tests.{holds-is}
 use Rattle.block.specs.Line.{isPlan}
 use Rattle.block.specs.Sound.{sound}
 use Rattle.block.specs.declared.situation.Situation.{Situation}
-use Rattle.records.specs.Form.{stands}
-use Rattle.records.specs.Situation.{SI, codes-in-range, situation-of, situation-read}
+use Rattle.records.specs.Situation.{codes-in-range, situation-of}
 use Rattle.records.specs.declared.situation.SituationRead.{SituationRead}
-use Rattle.records.proofs.Front.{taken-is-there}
 use Rattle.records.proofs.ListLaws.{events-count, readings-count}
 use Rattle.records.proofs.BytesNoSituationHas.{code-out-of-range, occupied-no-section, held-towards-B-no-section, held-towards-A-no-section, held-exit-signal-A, held-exit-signal-B}
 use Rattle.paper.specs.Refusal.{counts-in-range, refusalOf}
 use Rattle.paper.specs.Read.{lb, after-lb, si, after-si, ev, after-ev, rd, whole-form, question-read, answered, refused, readOf}
 use Rattle.paper.proofs.WholeForm.{Whole, whole}
+use Rattle.paper.proofs.InPlace.{si-is}
 
 fails : (v : Bool) → (T v → ⊥) → v ≡ false
 fails true h = absurd (h tt)
@@ -42,8 +41,7 @@ module _ (bytes : List ℕ) (form : whole-form bytes ≡ true) (plan : T (isPlan
   body = take 19 (drop 2 (after-lb bytes))
 
   situation-there : si bytes .situation ≡ situation-of body
-  unfolding situation-read
-  situation-there = rw (taken-is-there (λ (r : SituationRead). r .used) (stands SI 19 (after-lb bytes)) _ _ refl (whole bytes form .si-there))
+  situation-there = ap (λ (r : SituationRead). r .situation) (si-is (after-lb bytes) (whole bytes form .si-there))
 
   pub code-out-of-range-is-2 : codes-in-range body ≡ false → readOf bytes ≡ refused 2
   code-out-of-range-is-2 h = not-sound-is-2 (rw situation-there (λ t. rw (code-out-of-range (lb bytes .plan) body h) at t))

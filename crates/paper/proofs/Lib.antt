@@ -1,7 +1,6 @@
-pub mod Steps
-pub mod EventsApart
 pub mod Accepted
 pub mod Assembled
+pub mod InPlace
 pub mod Laid
 pub mod WholeForm
 pub mod WrittenIsRead
@@ -9,3 +8,4 @@ pub mod OneForm
 pub mod PartsAreRefused
 pub mod BytesNoSituationHas
 pub mod AcceptedQuestions
+pub mod AcceptedLayout

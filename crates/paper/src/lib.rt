@@ -2,4 +2,5 @@
 pub mod judge;
 pub mod question;
 pub mod read;
+pub mod refusal;
 pub mod write;

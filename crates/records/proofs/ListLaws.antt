@@ -66,7 +66,7 @@ module _ (mark : Mark) (least most width : ℕ) (s : List ℕ) where
   chosen true n h = refl
   chosen false n h = absurd (omega arith)
 
-  list-there : 1 ≤ counted mark least most width s → ListThere
+  pub list-there : 1 ≤ counted mark least most width s → ListThere
   unfolding counted
   list-there h =
       let t = chosen (stands mark 1 s and (leb least (getD s 2 0) and leb (getD s 2 0) most and leb (3 + width * getD s 2 0) (length s))) _ h in
@@ -91,6 +91,10 @@ module _ (mark : Mark) (least most width : ℕ) (s : List ℕ) where
 
     items-again : (size : ℕ) → take (width * getD s 2 0) (kept size) ≡ items
     items-again size = take-at items (drop (length items) (replicate size 0)) (width * getD s 2 0) items-length
+
+    -- so many bytes of the array are the bytes of the record itself
+    pub items-in-place : (size : ℕ) → take (width * getD s 2 0) (filled size (take (counted mark least most width s - 3) (drop 3 s))) ≡ take (counted mark least most width s - 3) (drop 3 s)
+    items-in-place size = rw items-read (items-again size)
 
     kept-length : (size : ℕ) → width * getD s 2 0 ≤ size → length (kept size) ≡ size
     kept-length size h =
@@ -132,6 +136,16 @@ module _ (s : List ℕ) (h : 1 ≤ events-read s .used) where
   pub events-count : (1 ≤ events-read s .events .count) × (events-read s .events .count ≤ 12)
   events-count = rw events-are (ev-here .enough, ev-here .not-more)
 
+  -- its bytes have its count, and then its items
+  pub events-first : events-read s .events .count ≡ getD s 2 0
+  events-first = rw events-are
+
+  pub events-used : events-read s .used ≡ 3 + 2 * events-read s .events .count
+  events-used = rw events-are
+
+  pub events-items : take (2 * events-read s .events .count) (events-read s .events .bytes) ≡ take (2 * events-read s .events .count) (drop 3 s)
+  events-items = rw events-are (items-again EV 1 12 2 s ev-here 24)
+
   pub events-are-24 : length (events-read s .events .bytes) ≡ 24
   events-are-24 = rw events-are (kept-length EV 1 12 2 s ev-here 24 (omega (arith, ev-here .not-more)))
 
@@ -163,6 +177,12 @@ module _ (s : List ℕ) (h : 1 ≤ readings-read s .used) where
 
   pub readings-count : readings-read s .readings .count ≤ 6
   readings-count = rw readings-are (rd-here .not-more)
+
+  pub readings-used : readings-read s .used ≡ 3 + 3 * readings-read s .readings .count
+  readings-used = rw readings-are
+
+  pub readings-items : take (3 * readings-read s .readings .count) (readings-read s .readings .bytes) ≡ take (3 * readings-read s .readings .count) (drop 3 s)
+  readings-items = rw readings-are (items-again RD 0 6 3 s rd-here 18)
 
   pub readings-are-18 : length (readings-read s .readings .bytes) ≡ 18
   readings-are-18 = rw readings-are (kept-length RD 0 6 3 s rd-here 18 (omega (arith, rd-here .not-more)))

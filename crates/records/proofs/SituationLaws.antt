@@ -77,7 +77,7 @@ situation-written-is-read p x rest h k =
 
 -- ---- each has one byte form
 module _ (t : List ℕ) (r : codes-in-range t ≡ true) where
-  record CodesRight : Type 0 where
+  pub record CodesRight : Type 0 where
     pub link : leb (getD t 0 0) 1 ≡ true
     pub orientation : (leb (getD t 1 0) 2 ≡ true) × (leb (getD t 2 0) 2 ≡ true)
     pub annulment : (leb (getD t 3 0) 2 ≡ true) × (leb (getD t 4 0) 2 ≡ true)
@@ -86,7 +86,7 @@ module _ (t : List ℕ) (r : codes-in-range t ≡ true) where
     pub pending : leb (getD t 9 0) 2 ≡ true
     pub stations : (leb (getD t 10 0) 3 ≡ true) × (leb (getD t 11 0) 3 ≡ true) × (leb (getD t 12 0) 3 ≡ true)
 
-  codes-right : CodesRight
+  pub codes-right : CodesRight
   unfolding codes-in-range
   codes-right =
       let a₁₂ = both _ (leb (getD t 12 0) 3) r in

@@ -30,7 +30,7 @@ pub fn stands(s: &[u8], mark: Mark, size: usize) -> bool
 }
 
 // How many bytes a record of a count and its items takes: least to most items, each of so many bytes; 0 where it does not stand there.
-pub(crate) fn counted(s: &[u8], mark: Mark, least: u8, most: u8, width: usize) -> usize
+pub fn counted(s: &[u8], mark: Mark, least: u8, most: u8, width: usize) -> usize
     requires { ⌜ width ≤ 3 ⌝ }
     ensures { λ r. ⌜ r ≡ counted mark least most width (now (s .entry)) ⌝ }
     ensures { λ r. ⌜ (r ≤ length (now (s .entry))) × (r ≤ 3 + width * most) ⌝ }

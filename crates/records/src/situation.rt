@@ -63,20 +63,20 @@ fn sections_of(low: u8, high: u8) -> u64
     2 * (low as u64 + 256 * (high as u64))
 }
 
-fn first_byte(sections: u64) -> u8
+pub fn first_byte(sections: u64) -> u8
     ensures { λ r. ⌜ r ≡ first-byte sections ⌝ }
 {
     (sections / 2 % 256) as u8
 }
 
-fn second_byte(sections: u64) -> u8
+pub fn second_byte(sections: u64) -> u8
     ensures { λ r. ⌜ r ≡ second-byte sections ⌝ }
 {
     (sections / 2 / 256 % 256) as u8
 }
 
 // The first eight bytes, then the others.
-fn codes_in_range(body: &[u8]) -> bool
+pub fn codes_in_range(body: &[u8]) -> bool
     requires { ⌜ 19 ≤ length (now body) ⌝ }
     ensures { λ r. ⌜ r ≡ codes-in-range (now (body .entry)) ⌝ }
 {
@@ -206,7 +206,7 @@ pub fn read_situation(s: &[u8]) -> SituationRead
     SituationRead { used: 0, situation }
 }
 
-fn flag(v: bool) -> u8
+pub fn flag(v: bool) -> u8
     ensures { λ r. ⌜ r ≡ flag v ⌝ }
 {
     if v {
@@ -216,7 +216,7 @@ fn flag(v: bool) -> u8
 }
 
 // The bit 1 is A's, the bit 2 B's.
-fn bits(a: bool, b: bool) -> u8
+pub fn bits(a: bool, b: bool) -> u8
     ensures { λ r. ⌜ r ≡ bits a b ⌝ }
 {
     flag(a) + 2 * flag(b)

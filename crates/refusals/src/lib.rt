@@ -57,7 +57,7 @@ pub fn sobb_refusal(x: Situation) -> u8
 {
     let pending = asks(x.own) | asks(x.other);
     let r = check(0, ANNULLED, annulled(x.own));
-    let r = check(r, LINK_DOWN, !x.link);
+    let r = check(r, LINK_DOWN, !x.linked());
     let r = check(r, PENDING, pending);
     let r = check(r, EXIT_ROUTE, x.exits());
     check(r, ORIENTED, is_out(x.own))
@@ -67,7 +67,7 @@ pub fn cobb_refusal(x: Situation) -> u8
     ensures { λ r. ⌜ r ≡ refusal (cobb (unpacked x)) ⌝ }
 {
     let r = check(0, ANNULLED, annulled(x.own));
-    let r = check(r, LINK_DOWN, !x.link);
+    let r = check(r, LINK_DOWN, !x.linked());
     let r = check(r, PENDING, !asks(x.other));
     check(r, EXIT_ROUTE, x.exits())
 }
@@ -152,7 +152,7 @@ pub fn exit_normal_refusal(x: Situation) -> u8
     let r = check(r, BILC, bilc(x.own));
     let r = check(r, ANNULLED, annulled(x.own));
     let r = check(r, REMINDER, reminder(x.own));
-    let r = check(r, LINK_DOWN, !x.link);
+    let r = check(r, LINK_DOWN, !x.linked());
     let r = check(r, ORIENTED, none);
     check(r, NOT_FREE, busy)
 }
@@ -168,7 +168,7 @@ pub fn exit_special_refusal(x: Situation) -> u8
         return r;
     }
     let r = check(r, ANNULLED, annulled(x.own));
-    let r = check(r, LINK_DOWN, !x.link);
+    let r = check(r, LINK_DOWN, !x.linked());
     let r = check(r, ORIENTED, none);
     check(r, NOT_FREE, busy)
 }
@@ -194,23 +194,23 @@ pub fn entry_released_refusal(x: Situation) -> u8
 pub fn occupied_refusal(x: Situation, k: u8) -> u8
     ensures { λ r. ⌜ ((expected first : Bool) → r ≡ refusal (occupied (unpacked x) (line-free (unpacked x)) k expected first)) ⌝ }
 {
-    refuse(ALREADY, has(x.occupied, k as u16), 0)
+    refuse(ALREADY, has(x.occupied_sections(), k as u16), 0)
 }
 
 pub fn freed_refusal(x: Situation, k: u8) -> u8
     ensures { λ r. ⌜ r ≡ refusal (freed (unpacked x) k) ⌝ }
 {
-    refuse(ALREADY, !has(x.occupied, k as u16), 0)
+    refuse(ALREADY, !has(x.occupied_sections(), k as u16), 0)
 }
 
 pub fn link_lost_refusal(x: Situation) -> u8
     ensures { λ r. ⌜ r ≡ refusal (link-lost (unpacked x)) ⌝ }
 {
-    refuse(ALREADY, !x.link, 0)
+    refuse(ALREADY, !x.linked(), 0)
 }
 
 pub fn link_restored_refusal(x: Situation) -> u8
     ensures { λ r. ⌜ r ≡ refusal (link-restored (unpacked x)) ⌝ }
 {
-    refuse(ALREADY, x.link, 0)
+    refuse(ALREADY, x.linked(), 0)
 }

@@ -1,3 +1,5 @@
-pub mod ReadingSteps
 pub mod RunSteps
 pub mod EachEvent
+pub mod ReadingSteps
+pub mod MarksAllowed
+pub mod ReadingsTogether

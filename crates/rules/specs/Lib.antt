@@ -1,3 +1,4 @@
 pub mod RulesOf
 pub mod Told
 pub mod Judged
+pub mod Wanted

@@ -7,8 +7,7 @@ use Rattle.sections.specs.Words.{_and_}
 use Rattle.keylaws.specs.Rules.{Rules}
 use Rattle.block.specs.declared.line.Plan.{Plan}
 use Rattle.block.specs.declared.situation.Situation.{Situation}
-use Rattle.events.specs.Apply.{stepped}
-use Rattle.events.specs.declared.Outcome.{Outcome}
+use Rattle.events.specs.Apply.{stepped, Outcome}
 use Rattle.signals.specs.Readings.{reading-holds}
 
 -- "An event is two bytes, code and argument": what the event at a place gives, counted from 1

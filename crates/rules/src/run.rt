@@ -5,14 +5,16 @@ ghost use lib.ListN.{length};
 ghost use Rattle.keylaws.specs.Key.{Permitted};
 ghost use Rattle.keylaws.specs.Run.{run};
 ghost use Rattle.rules.specs.RulesOf.{rulesOf};
-ghost use Rattle.rules.specs.Judged.{Judged};
+ghost use mathlib.Core.Bool.{true};
+ghost use Rattle.packed.specs.Packed.{unpacked};
+ghost use Rattle.rules.specs.Judged.{all-right};
 ghost use Rattle.rules.specs.Told.{outcome};
-use super::tries::all_hold;
 use super::tries::reached_at;
 use super::tries::refusal_at;
+use super::wanted::all_hold;
+use super::wanted::wanted_of;
 use block::line::Plan;
-use block::situation::Situation;
-use packed::situation::pack;
+use packed::situation::Situation;
 
 // The place of the first refused event within the slot, from 1, and its refusal, or 0, 0 and whether all readings hold.
 pub struct Told {
@@ -30,17 +32,17 @@ pub fn run_places(
     places: &[u8],
 ) -> Told
     requires { ⌜ (length (now places) ≤ 5) × Permitted (length (now events) / 2) (now places) ⌝ }
-    requires { ⌜ Judged plan (now events) (now readings) ⌝ }
-    ensures { λ r. ⌜ outcome r ≡ run (rulesOf plan (now (events .entry)) (now (readings .entry))) start (now (places .entry)) ⌝ }
+    requires { ⌜ all-right plan (now events) ≡ true ⌝ }
+    ensures { λ r. ⌜ outcome r ≡ run (rulesOf plan (now (events .entry)) (now (readings .entry))) (unpacked start) (now (places .entry)) ⌝ }
 {
-    let mut x = pack(start);
+    let mut x = start;
     let mut i = 0;
     let told = loop {
         if i == places.len() {
             break Told {
                 place: 0,
                 refusal: 0,
-                holds: all_hold(plan, x, readings),
+                holds: all_hold(plan, wanted_of(readings), x, readings),
             };
         }
         let place = places[i] as usize;

@@ -1,16 +1,15 @@
-// The rules of a question: its events tried by their places, and its readings.
+// The events of a question, tried by their places.
 ghost use mathlib.Core.Path.{_≡_};
 ghost use Prim.Native.Nat.{_*_, _≤_};
 ghost use lib.ListN.{length};
 ghost use Rattle.packed.specs.Packed.{unpacked};
 ghost use mathlib.Core.Bool.{true};
-ghost use Rattle.rules.specs.RulesOf.{tried, all-hold};
-ghost use Rattle.rules.specs.Judged.{all-right, Readable};
+ghost use Rattle.rules.specs.RulesOf.{tried};
+ghost use Rattle.rules.specs.Judged.{all-right};
 use block::line::Plan;
 use events::next;
 use events::own_refusal;
 use packed::situation::Situation;
-use signals::readings::reading_holds;
 
 // The refusal of the event at a place, counted from 1.
 pub fn refusal_at(plan: Plan, x: Situation, events: &[u8], place: usize) -> u8
@@ -30,19 +29,4 @@ pub fn reached_at(plan: Plan, x: Situation, events: &[u8], place: usize) -> Situ
 {
     let at = 2 * (place - 1);
     next(plan, x, events[at], events[at + 1])
-}
-
-// Whether all readings hold.
-pub fn all_hold(plan: Plan, x: Situation, readings: &[u8]) -> bool
-    requires { ⌜ Readable plan (now readings) ⌝ }
-    ensures { λ r. ⌜ r ≡ all-hold plan (now (readings .entry)) (unpacked x) ⌝ }
-{
-    let mut rest = readings;
-    while 3 <= rest.len() {
-        if !reading_holds(plan, x, rest[0], rest[1], rest[2]) {
-            return false;
-        }
-        rest = &rest[3..];
-    }
-    true
 }

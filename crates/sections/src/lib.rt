@@ -16,7 +16,7 @@ pub fn has(m: u64, k: u16) -> bool
 fn only(k: u8) -> u64
     ensures { λ r. ⌜ r ≡ only k ⌝ }
 {
-    if k < 64 {
+    if k < 49 {
         return 1 << k;
     }
     0
@@ -45,9 +45,9 @@ pub fn sections_up_to(m: u64, n: u8) -> bool
     !zero
 }
 
-// The section k alone, one that a word has a bit for.
+// The section k alone, one that a set has a bit for.
 pub fn single(k: u8) -> u64
-    requires { ⌜ k < 64 ⌝ }
+    requires { ⌜ k < 49 ⌝ }
     ensures { λ r. ⌜ r ≡ only k ⌝ }
 {
     1 << k

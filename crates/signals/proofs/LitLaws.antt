@@ -50,7 +50,7 @@ within p k e =
     let h = and-at (leb 1 k) (leb k (p .sections)) (is-holds (is-section p k) e) in
     record { least = leb→le 1 k (h .0); most = leb→le k (p .sections) (h .1) }
 
-pub first-small : (p : Plan) (s : Name) → isPlan p ≡ true → first-section p s < 64
+pub first-small : (p : Plan) (s : Name) → isPlan p ≡ true → first-section p s < 49
 first-small p StationA e = omega arith
 first-small p StationB e = let h : Sized p = sized p e in omega arith
 
@@ -228,7 +228,7 @@ module _ (p : Plan) (x : Situation) (d : Direction) (m next edge : ℕ) where
       (in-given k (station x (terminus d) .entry) (only last) ∙ ap (λ (v : Bool). station x (terminus d) .entry and v) (in-only k last small))
       ∙ go (ℕ-discrete k last)
     where
-      small : last < 64
+      small : last < 49
       small = first-small p (terminus d) plan
 
       seen : (k ∈ ahead) ≡ ((k ∈ next) and not (not (x .link) and eqb k edge))

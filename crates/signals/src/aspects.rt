@@ -45,7 +45,7 @@ fn block_open(plan: Plan, x: Situation, d: Direction, k: u16) -> bool
     let marks = x.marks(s);
     let way = area_direction(marks);
     let ours = runs(s, way, d);
-    let occupied = has(x.occupied, k);
+    let occupied = has(x.occupied_sections(), k);
     let held = x.held(d);
     let stopped = has(held, k);
     ours & !occupied & !stopped & !bslg(marks)
@@ -58,7 +58,7 @@ fn exit_open(plan: Plan, x: Situation, d: Direction, k: u16) -> bool
     let marks = x.marks(s);
     let routed = routed(marks);
     let way = area_direction(marks);
-    let occupied = has(x.occupied, k);
+    let occupied = has(x.occupied_sections(), k);
     routed & way.out & !occupied
 }
 
@@ -90,7 +90,7 @@ fn next_not_red(plan: Plan, x: Situation, d: Direction, k: u8) -> bool
     let next = d.after(k);
     let lit = not_red(plan, x, d, next);
     let across = plan.across_frontier(k as u16, next);
-    lit & (x.link | !across)
+    lit & (x.linked() | !across)
 }
 
 fn aspect_at(plan: Plan, x: Situation, d: Direction, k: u8) -> u8

@@ -1,14 +1,13 @@
 // The aspects of all signals of a direction at once, as sets of their sections. The situation is kept as A sees it.
 ghost use mathlib.Core.Path.{_≡_};
+ghost use Prim.Native.Nat.{_≤_};
 ghost use mathlib.Core.Bool.{true};
+ghost use Rattle.sections.specs.Words.{if_then_else_};
 ghost use Rattle.sections.specs.Sections.{only};
 ghost use Rattle.block.specs.Line.{isPlan, first-section, is-signal};
 ghost use Rattle.packed.specs.Packed.{station, unpacked};
 ghost use Rattle.signals.specs.Aspects.{not-red, next-not-red};
 ghost use Rattle.signals.specs.SignalSets.{those, in-area, leaves, arrives, block-lit, exit-lit, is-green, on-edge, Moved, shown};
-use super::aspects::GREEN;
-use super::aspects::RED;
-use super::aspects::YELLOW;
 use block::line::Direction;
 use block::line::Name;
 use block::line::Plan;
@@ -104,7 +103,7 @@ fn not_red(plan: Plan, x: Situation, d: Direction) -> u64
     let blocks = block_lit(plan, x, d);
     let exit = exit_lit(plan, x, d);
     let lit = either(minus(blocks, first(plan, s)), exit);
-    minus(lit, x.occupied)
+    minus(lit, x.occupied_sections())
 }
 
 // The sections whose next one in that direction is in m.
@@ -138,7 +137,7 @@ fn next_not_red(plan: Plan, x: Situation, d: Direction, m: u64) -> u64
     let last = first(plan, t);
     let marks = x.marks(t);
     let entered = given(entry(marks), last);
-    let unseen = given(!x.link, single(edge(plan, d)));
+    let unseen = given(!x.linked(), single(edge(plan, d)));
     let next = minus(next_in(m, d), unseen);
     either(minus(next, last), entered)
 }
@@ -157,14 +156,19 @@ pub fn lit(plan: Plan, x: Situation, d: Direction) -> Lights
     }
 }
 
+fn flag(v: bool) -> u8
+    ensures { λ r. ⌜ (r ≡ (if v then 1 else 0)) × (r ≤ 1) ⌝ }
+{
+    if v {
+        return 1;
+    }
+    0
+}
+
 pub fn shown(l: Lights, k: u8) -> u8
     ensures { λ r. ⌜ r ≡ shown l k ⌝ }
 {
-    if has(l.open, k as u16) {
-        if has(l.green, k as u16) {
-            return GREEN;
-        }
-        return YELLOW;
-    }
-    RED
+    let open = has(l.open, k as u16);
+    let green = has(l.green, k as u16);
+    flag(open) + flag(open & green)
 }

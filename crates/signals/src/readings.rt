@@ -1,20 +1,17 @@
 // Readings: 1 a signal's aspect, 2 orientation, 3 annulment, 4 exit route, 5 the line.
 ghost use mathlib.Core.Path.{_≡_};
-ghost use mathlib.Core.Bool.{true};
-ghost use Rattle.block.specs.Line.{isPlan};
 ghost use Rattle.block.specs.Situation.{station as Block·station};
 ghost use Rattle.packed.specs.Packed.{station, unpacked};
-ghost use Rattle.signals.specs.Readings.{station-named, can-be-read, highest-value, reading-in-range, value-read, reading-holds, reading, aspect-told};
+ghost use Rattle.signals.specs.Readings.{station-named, can-be-read, highest-value, reading-in-range, value-read, reading, aspect-told};
 use super::aspects::aspect_of;
-use block::judged::judged;
 use block::line::Name;
 use block::line::Plan;
 use block::refused::OUT_OF_RANGE;
+use judging::judged;
 use packed::marks::annulment;
 use packed::marks::exit_route;
 use packed::marks::orientation;
 use packed::situation::Situation;
-use packed::situation::pack;
 
 pub const ASPECT: u8 = 1;
 
@@ -78,7 +75,6 @@ fn marks_named(x: Situation, arg: u8) -> u64
 
 // What is read, for a plan, a situation and a reading that are judged already.
 pub fn value_read(plan: Plan, x: Situation, kind: u8, arg: u8) -> u8
-    requires { ⌜ (isPlan plan ≡ true) × (can-be-read plan kind arg ≡ true) ⌝ }
     ensures { λ r. ⌜ r ≡ value-read plan (unpacked x) kind arg ⌝ }
 {
     if kind == ASPECT {
@@ -102,22 +98,14 @@ pub fn value_read(plan: Plan, x: Situation, kind: u8, arg: u8) -> u8
     1
 }
 
-pub fn reading_holds(plan: Plan, x: Situation, kind: u8, arg: u8, value: u8) -> bool
-    requires { ⌜ (isPlan plan ≡ true) × (can-be-read plan kind arg ≡ true) ⌝ }
-    ensures { λ r. ⌜ r ≡ reading-holds plan (unpacked x) kind arg value ⌝ }
-{
-    value_read(plan, x, kind, arg) == value
-}
-
 // Refusals 1 plan, 2 situation not sound, 21 a reading out of range.
-pub fn reading(plan: Plan, x: block::situation::Situation, kind: u8, arg: u8) -> Told
-    ensures { λ r. ⌜ r ≡ reading plan x kind arg ⌝ }
+pub fn reading(plan: Plan, x: Situation, kind: u8, arg: u8) -> Told
+    ensures { λ r. ⌜ r ≡ reading plan (unpacked x) kind arg ⌝ }
 {
     let refusal = judged(plan, x);
     if refusal == 0 {
         if can_be_read(plan, kind, arg) {
-            let packed = pack(x);
-            let value = value_read(plan, packed, kind, arg);
+            let value = value_read(plan, x, kind, arg);
             return Told { refusal: 0, value };
         }
         return Told {
@@ -128,8 +116,8 @@ pub fn reading(plan: Plan, x: block::situation::Situation, kind: u8, arg: u8) ->
     Told { refusal, value: 0 }
 }
 
-pub fn aspect(plan: Plan, x: block::situation::Situation, signal: u8) -> Told
-    ensures { λ r. ⌜ r ≡ aspect-told plan x signal ⌝ }
+pub fn aspect(plan: Plan, x: Situation, signal: u8) -> Told
+    ensures { λ r. ⌜ r ≡ aspect-told plan (unpacked x) signal ⌝ }
 {
     reading(plan, x, ASPECT, signal)
 }

@@ -11,7 +11,7 @@ use borrow.Fn.Kinds.{In}
 use borrow.Fn.PlainCycle.{Measures, is, falls, and}
 use Rattle.keylaws.specs.Parts.{Part, handed}
 use Rattle.keylaws.specs.Walk.{tries, walk}
-use Rattle.keylaws.specs.Sheet.{grows, put}
+use Rattle.keylaws.specs.Sheet.{grow, grows, put}
 use Rattle.keylaws.proofs.WalkSteps.{try-none, try-refused, try-full, try-on, node-leaf, node-full, node-on}
 use Rattle.block.specs.declared.situation.Situation.{Situation}
 use Rattle.packed.specs.Packed.{unpacked}
@@ -20,18 +20,20 @@ use denote.Ref.{now}
 use Rattle.engine.specs.Walked.{explored}
 use Rattle.engine.specs.declared.Ask.{Ask}
 use Rattle.engine.specs.declared.Node.{Node}
+use Rattle.engine.proofs.OwnAnswer.{last-one, last-none}
 use Rattle.engine.proofs.attempt.Reads as attempt
 use Rattle.engine.proofs.attempt.Kinds as attempt-kinds
 use Rattle.engine.proofs.+attempt+explore.Lts-attempt as attempt-lts
 use Rattle.engine.proofs.explore.Reads as explore
 use Rattle.engine.proofs.explore.Kinds as explore-kinds
 use Rattle.engine.proofs.+attempt+explore.Lts-explore as explore-lts
-use Rattle.engine.proofs.last_answer.Reads as last-answer-reads
+use Rattle.engine.proofs.ends_answer.Reads as ends-answer-reads
 use Rattle.engine.proofs.own_answer.Reads as own-answer-reads
 use Rattle.engine.proofs.start_of.Reads as start-of-reads
 use Rattle.rules.proofs.tries.reached_at.Reads as reached-at-reads
 use Rattle.rules.proofs.tries.refusal_at.Reads as refusal-at-reads
 use Rattle.slots.proofs.room.grow_slot.Reads as grow-slot-reads
+use Rattle.slots.proofs.room.put_slot.Reads as put-slot-reads
 use Rattle.engine.proofs.+attempt+explore.{statement}
 use Rattle.engine.proofs.+attempt+explore.Tie.{close}
 
@@ -54,7 +56,7 @@ abbrev explore-below : ℕ → In 3 explore-kinds.ps
 explore-below t = and 3 explore-kinds.ps (falls 3 explore-kinds.ps _<_ μ-explore t) explore.Pre
 
 abbrev attempt-calls : ℕ → attempt-lts.Claims
-attempt-calls t = (start-of-reads.Asked, start-of-reads.Learnt, refusal-at-reads.Asked, refusal-at-reads.Learnt, grow-slot-reads.Asked, grow-slot-reads.Learnt, last-answer-reads.Asked, last-answer-reads.Learnt, reached-at-reads.Asked, reached-at-reads.Learnt, explore-below t, explore.Post)
+attempt-calls t = (start-of-reads.Asked, start-of-reads.Learnt, refusal-at-reads.Asked, refusal-at-reads.Learnt, ends-answer-reads.Asked, ends-answer-reads.Learnt, grow-slot-reads.Asked, grow-slot-reads.Learnt, put-slot-reads.Asked, put-slot-reads.Learnt, reached-at-reads.Asked, reached-at-reads.Learnt, explore-below t, explore.Post)
 
 abbrev explore-calls : ℕ → explore-lts.Claims
 explore-calls t = (own-answer-reads.Asked, own-answer-reads.Learnt, attempt-below t, attempt.Post)
@@ -84,19 +86,44 @@ attempt-loop-holds t c = (omega arith, omega arith, refl, refl)
 attempt-refusal-at-requires : (t : ℕ) → attempt-lts.Need-refusal-at-requires (attempt-calls t) (attempt-at t) attempt.Post attempt-Inv-loop attempt-μ-loop
 attempt-refusal-at-requires t c κs = (omega arith, c .before .before .before .before .before .before .before .before .pre .1 .1 .1 .0)
 
+attempt-ends-answer-requires : (t : ℕ) → attempt-lts.Need-ends-answer-requires (attempt-calls t) (attempt-at t) attempt.Post attempt-Inv-loop attempt-μ-loop
+attempt-ends-answer-requires t c κs =
+    let i = c .before in
+    (omega arith, (sym (i .before .refusal-at .ensures) ∙ i .if1 .taken, c .before .before .before .before .before .before .before .before .before .before .before .pre .1 .1 .1 .1))
+
 attempt-grow-slot-requires : (t : ℕ) → attempt-lts.Need-grow-slot-requires (attempt-calls t) (attempt-at t) attempt.Post attempt-Inv-loop attempt-μ-loop
-attempt-grow-slot-requires t c κs = omega (arith, c .before .before .before .before .before .before .before .before .before .before .pre)
+attempt-grow-slot-requires t c κs = omega (arith, c .before .before .before .before .before .before .before .before .before .before .before .before .before .pre)
 
-attempt-add-t23 : (t : ℕ) → attempt-lts.Need-add-t23 (attempt-calls t) (attempt-at t) attempt.Post attempt-Inv-loop attempt-μ-loop
-attempt-add-t23 t c = omega (arith, c .before .before .before .before .before .before .before .before .before .before .before .pre)
+attempt-put-slot-requires : (t : ℕ) → attempt-lts.Need-put-slot-requires (attempt-calls t) (attempt-at t) attempt.Post attempt-Inv-loop attempt-μ-loop
+attempt-put-slot-requires t c κs = c .before .before .before .before .before .before .before .before .loop .inv .1
 
-attempt-sub-t24 : (t : ℕ) → attempt-lts.Need-sub-t24 (attempt-calls t) (attempt-at t) attempt.Post attempt-Inv-loop attempt-μ-loop
-attempt-sub-t24 t c = omega (arith, c .before .before .before .before .before .before .before .before .before .before .before .pre)
+attempt-same-length : (t : ℕ) → attempt-lts.Need-same-length (attempt-calls t) (attempt-at t) attempt.Post attempt-Inv-loop attempt-μ-loop
+attempt-same-length t c = omega (arith, c .before .before .before .before .before .before .before .before .before .before .before .before .loop .inv .2)
 
-attempt-last-answer-requires : (t : ℕ) → attempt-lts.Need-last-answer-requires (attempt-calls t) (attempt-at t) attempt.Post attempt-Inv-loop attempt-μ-loop
-attempt-last-answer-requires t c κs =
-    let i = c .before .before .before in
-    (omega (arith, c .before .before .before .before .before .before .loop .inv .1), (omega arith, (sym (i .before .refusal-at .ensures) ∙ i .if1 .taken, c .before .before .before .before .before .before .before .before .before .before .before .before .before .pre .1 .1 .1 .1)))
+attempt-returns : (t : ℕ) → attempt-lts.Need-returns (attempt-calls t) (attempt-at t) attempt.Post attempt-Inv-loop attempt-μ-loop
+attempt-returns t c =
+    let p = c .before .before .before in
+    let e = p .before .before .before in
+    let i = e .before .before .before in
+    let f = i .before .before in
+    let l = f .before .loop in
+    let a = f .before .before .before .before .before .before .before .before .args in
+    let y = tried (a .ask .plan) (now (a .events)) (unpacked (a .x)) (l .place) .next in (
+      rw (← f .before .before .start-of .ensures .0, ← f .before .before .start-of .ensures .1 .0)
+          (try-full _ _ _ _ _ _ _ _ y (p .before .before .grow-slot .result) _ _ _ (f .loop-test .taken) (eq-eqb _ 0 (sym (i .before .refusal-at .ensures) ∙ i .if1 .taken)) refl (p .before .before .grow-slot .ensures)
+          (last-one (rulesOf (a .ask .plan) (now (a .events)) (now (a .readings))) (l .on) (a .ask .from) (a .at .depth + 1) y _ _ _ _ (omega (arith, e .before .before .if2 .taken)) _ _ _ (sym (e .before .ends-answer .ensures) ∙ e .if3 .taken) (p .put-slot .ensures .0))
+          (c .if4 .taken) ∙ l .inv .3),
+      p .put-slot .ensures .1,
+    )
+
+attempt-grow-slot-requires-2 : (t : ℕ) → attempt-lts.Need-grow-slot-requires-2 (attempt-calls t) (attempt-at t) attempt.Post attempt-Inv-loop attempt-μ-loop
+attempt-grow-slot-requires-2 t c κs = omega (arith, c .before .before .before .before .before .before .before .before .before .before .before .pre)
+
+attempt-add-t30 : (t : ℕ) → attempt-lts.Need-add-t30 (attempt-calls t) (attempt-at t) attempt.Post attempt-Inv-loop attempt-μ-loop
+attempt-add-t30 t c = omega (arith, c .before .before .before .before .before .before .before .before .before .before .before .before .pre)
+
+attempt-sub-t31 : (t : ℕ) → attempt-lts.Need-sub-t31 (attempt-calls t) (attempt-at t) attempt.Post attempt-Inv-loop attempt-μ-loop
+attempt-sub-t31 t c = omega (arith, c .before .before .before .before .before .before .before .before .before .before .before .before .pre)
 
 attempt-reached-at-requires : (t : ℕ) → attempt-lts.Need-reached-at-requires (attempt-calls t) (attempt-at t) attempt.Post attempt-Inv-loop attempt-μ-loop
 attempt-reached-at-requires t c κs =
@@ -109,29 +136,24 @@ attempt-explore-requires t c κs =
     let a = l .before .before .before .before .before .before .before in
     (omega (arith, a .pre .0), (omega (arith, l .loop .inv .1), (omega (arith, a .pre .1 .1 .0), a .pre .1 .1 .1)))
 
-attempt-same-length : (t : ℕ) → attempt-lts.Need-same-length (attempt-calls t) (attempt-at t) attempt.Post attempt-Inv-loop attempt-μ-loop
-attempt-same-length t c =
-    let l = c .before .before .before .before .before .before .loop in
-    ⊎-elim (λ v. rw (v .5) (omega (arith, l .inv .2))) (λ v. rw (v .6) (omega (arith, l .inv .2))) (c .before .if2 .came)
+attempt-same-length-2 : (t : ℕ) → attempt-lts.Need-same-length-2 (attempt-calls t) (attempt-at t) attempt.Post attempt-Inv-loop attempt-μ-loop
+attempt-same-length-2 t c = omega (arith, c .before .before .before .before .before .before .before .before .before .before .before .loop .inv .2)
 
-attempt-returns : (t : ℕ) → attempt-lts.Need-returns (attempt-calls t) (attempt-at t) attempt.Post attempt-Inv-loop attempt-μ-loop
-attempt-returns t c =
-    let j = c .before .if2 in
-    let g = c .before .before in
-    let r = g .before .before in
-    let f = r .before .before in
-    let l = f .loop in
-    let a = c .before .before .before .before .before .before .before .before .before .before .before .before .before .args in
-    let y = tried (a .ask .plan) (now (a .events)) (unpacked (a .x)) (l .place) .next in
-    let node : Node = record { slot = g .grow-slot .result; depth = a .at .depth + 1; left = a .at .left - 1; on = l .on; count = l .count } in
-    let done : (handed (j .room) (j .part .count) (j .part .more) ≡ explored (a .ask) (now (a .events)) (now (a .readings)) y node (l .room))
-    × (6 * j .part .count ≤ length (j .room))
-    × (length (j .room) ≡ length (l .room)) =
-    ⊎-elim
-    (λ v. rw (v .5, v .6) (node-leaf _ _ _ _ _ _ _ _ _ _ (v .2 .ensures .0) _ (omega (arith, v .0 .taken)), v .2 .ensures .1, omega arith))
-    (λ v. rw (v .6, v .7) (v .3 .ensures .0 ∙ ap (λ (s : Situation). explored (a .ask) (now (a .events)) (now (a .readings)) s node (l .room)) (v .1 .ensures), v .3 .ensures .1, omega arith))
-    (j .came) in
-    (rw (← f .before .start-of .ensures .0, ← f .before .start-of .ensures .1 .0) (try-full _ _ _ _ _ _ _ _ y (g .grow-slot .result) _ _ _ (r .before .loop-test .taken) (eq-eqb _ 0 (sym (r .refusal-at .ensures) ∙ g .before .if1 .taken)) refl (g .grow-slot .ensures) (done .0) (c .if3 .taken) ∙ l .inv .3), done .1)
+attempt-returns-2 : (t : ℕ) → attempt-lts.Need-returns-2 (attempt-calls t) (attempt-at t) attempt.Post attempt-Inv-loop attempt-μ-loop
+attempt-returns-2 t c =
+    let v = c .before .before .before in
+    let g = v .before .before .before in
+    let i = g .before .before in
+    let f = i .before .before in
+    let l = f .before .loop in
+    let a = f .before .before .before .before .before .before .before .before .args in
+    let node : Node = record { slot = g .grow-slot2 .result; depth = a .at .depth + 1; left = a .at .left - 1; on = l .on; count = l .count } in (
+      rw (← f .before .before .start-of .ensures .0, ← f .before .before .start-of .ensures .1 .0)
+          (try-full _ _ _ _ _ _ _ _ (tried (a .ask .plan) (now (a .events)) (unpacked (a .x)) (l .place) .next) (g .grow-slot2 .result) _ _ _ (f .loop-test .taken) (eq-eqb _ 0 (sym (i .before .refusal-at .ensures) ∙ i .if1 .taken)) refl (g .grow-slot2 .ensures)
+          (v .explore .ensures .0 ∙ ap (λ (s : Situation). explored (a .ask) (now (a .events)) (now (a .readings)) s node (l .room)) (v .before .before .reached-at .ensures))
+          (c .if5 .taken) ∙ l .inv .3),
+      v .explore .ensures .1,
+    )
 
 attempt-add-place : (t : ℕ) → attempt-lts.Need-add-place (attempt-calls t) (attempt-at t) attempt.Post attempt-Inv-loop attempt-μ-loop
 attempt-add-place t c = omega (arith, c .before .before .before .before .before .before .before .before .before .before .pre)
@@ -146,25 +168,44 @@ attempt-loop-again t c =
     let a = c .before .before .before .before .before .before .before .before .before .before .args in
     let y = tried (a .ask .plan) (now (a .events)) (unpacked (a .x)) (l .place) .next in
     ⊎-elim
-    (λ w.
-    let j = w .2 in
-    let node : Node = record { slot = w .1 .result; depth = a .at .depth + 1; left = a .at .left - 1; on = l .on; count = l .count } in
-    let done : (handed (j .room) (j .part .count) (j .part .more) ≡ explored (a .ask) (now (a .events)) (now (a .readings)) y node (l .room))
-    × (6 * j .part .count ≤ length (j .room))
-    × (length (j .room) ≡ length (l .room)) =
-    ⊎-elim
-    (λ v. rw (v .5, v .6) (node-leaf _ _ _ _ _ _ _ _ _ _ (v .2 .ensures .0) _ (omega (arith, v .0 .taken)), v .2 .ensures .1, omega arith))
-    (λ v. rw (v .6, v .7) (v .3 .ensures .0 ∙ ap (λ (s : Situation). explored (a .ask) (now (a .events)) (now (a .readings)) s node (l .room)) (v .1 .ensures), v .3 .ensures .1, omega arith))
-    (j .came) in
-    (omega arith, rw (w .4, w .5) (done .1), rw (w .4) (omega (arith, l .inv .2, done .2)), rw (w .4, w .5) (try-on _ _ _ _ _ _ _ _ y (w .1 .result) _ _ _ (r .before .loop-test .taken) (eq-eqb _ 0 (sym (r .refusal-at .ensures) ∙ w .0 .taken)) refl (w .1 .ensures) (done .0) _ (w .3 .left) refl ∙ l .inv .3)))
-    (λ w. (omega arith, rw (w .1, w .2) (l .inv .1), rw (w .1) (l .inv .2), rw (w .1, w .2) (try-refused _ _ _ _ _ _ _ _ _ (r .before .loop-test .taken) (ne-eqb _ 0 (λ z. w .0 .left (r .refusal-at .ensures ∙ z))) refl ∙ l .inv .3)))
+    (λ v. (
+      omega arith,
+      rw (v .10, v .11) (v .6 .ensures .1),
+      rw (v .10) (omega (arith, l .inv .2)),
+      rw (v .10, v .11)
+          (try-on _ _ _ _ _ _ _ _ y (v .4 .result) _ _ _ (r .before .loop-test .taken) (eq-eqb _ 0 (sym (r .refusal-at .ensures) ∙ v .0 .taken)) refl (v .4 .ensures)
+          (last-one (rulesOf (a .ask .plan) (now (a .events)) (now (a .readings))) (l .on) (a .ask .from) (a .at .depth + 1) y _ _ _ _ (omega (arith, v .1 .taken)) _ _ _ (sym (v .2 .ensures) ∙ v .3 .taken) (v .6 .ensures .0))
+          _ (v .9 .left) refl ∙ l .inv .3),
+    ))
+    (⊎-elim
+    (λ v. (
+      omega arith,
+      rw (v .4, v .5) (l .inv .1),
+      rw (v .4) (l .inv .2),
+      rw (v .4, v .5)
+          (try-on _ _ _ _ _ _ _ _ y (grow (a .at .slot) (a .at .depth) (l .place)) _ _ _ (r .before .loop-test .taken) (eq-eqb _ 0 (sym (r .refusal-at .ensures) ∙ v .0 .taken)) refl refl
+          (last-none (rulesOf (a .ask .plan) (now (a .events)) (now (a .readings))) (l .on) (a .ask .from) (a .at .depth + 1) y (grow (a .at .slot) (a .at .depth) (l .place)) _ _ _ (omega (arith, v .1 .taken)) (sym (v .2 .ensures) ∙ v .3 .left))
+          _ refl refl ∙ l .inv .3),
+    ))
+    (⊎-elim
+    (λ v.
+    let node : Node = record { slot = v .2 .result; depth = a .at .depth + 1; left = a .at .left - 1; on = l .on; count = l .count } in (
+      omega arith,
+      rw (v .9, v .10) (v .5 .ensures .1),
+      rw (v .9) (omega (arith, l .inv .2)),
+      rw (v .9, v .10)
+          (try-on _ _ _ _ _ _ _ _ y (v .2 .result) _ _ _ (r .before .loop-test .taken) (eq-eqb _ 0 (sym (r .refusal-at .ensures) ∙ v .0 .taken)) refl (v .2 .ensures)
+          (v .5 .ensures .0 ∙ ap (λ (s : Situation). explored (a .ask) (now (a .events)) (now (a .readings)) s node (l .room)) (v .3 .ensures))
+          _ (v .8 .left) refl ∙ l .inv .3),
+    ))
+    (λ v. (omega arith, rw (v .1, v .2) (l .inv .1), rw (v .1) (l .inv .2), rw (v .1, v .2) (try-refused _ _ _ _ _ _ _ _ _ (r .before .loop-test .taken) (ne-eqb _ 0 (λ z. v .0 .left (r .refusal-at .ensures ∙ z))) refl ∙ l .inv .3)))))
     (c .if1 .came)
 
-attempt-same-length-2 : (t : ℕ) → attempt-lts.Need-same-length-2 (attempt-calls t) (attempt-at t) attempt.Post attempt-Inv-loop attempt-μ-loop
-attempt-same-length-2 t c = omega arith
+attempt-same-length-3 : (t : ℕ) → attempt-lts.Need-same-length-3 (attempt-calls t) (attempt-at t) attempt.Post attempt-Inv-loop attempt-μ-loop
+attempt-same-length-3 t c = omega arith
 
-attempt-returns-2 : (t : ℕ) → attempt-lts.Need-returns-2 (attempt-calls t) (attempt-at t) attempt.Post attempt-Inv-loop attempt-μ-loop
-attempt-returns-2 t c =
+attempt-returns-3 : (t : ℕ) → attempt-lts.Need-returns-3 (attempt-calls t) (attempt-at t) attempt.Post attempt-Inv-loop attempt-μ-loop
+attempt-returns-3 t c =
     let l = c .before in
     (rw (← l .before .start-of .ensures .0, ← l .before .start-of .ensures .1 .0) (try-none _ _ _ _ _ _ _ _ (c .loop-test .left) ∙ l .loop .inv .3), l .loop .inv .1)
 
@@ -213,19 +254,23 @@ pub +attempt+explore-spec : {M : Type 1} → statement M
     (attempt-start-of-requires t)
     (attempt-loop-holds t)
     (attempt-refusal-at-requires t)
+    (attempt-ends-answer-requires t)
     (attempt-grow-slot-requires t)
-    (attempt-add-t23 t)
-    (attempt-sub-t24 t)
-    (attempt-last-answer-requires t)
-    (attempt-reached-at-requires t)
-    (attempt-explore-requires t)
+    (attempt-put-slot-requires t)
     (attempt-same-length t)
     (attempt-returns t)
+    (attempt-grow-slot-requires-2 t)
+    (attempt-add-t30 t)
+    (attempt-sub-t31 t)
+    (attempt-reached-at-requires t)
+    (attempt-explore-requires t)
+    (attempt-same-length-2 t)
+    (attempt-returns-2 t)
     (attempt-add-place t)
     (attempt-loop-less t)
     (attempt-loop-again t)
-    (attempt-same-length-2 t)
-    (attempt-returns-2 t))
+    (attempt-same-length-3 t)
+    (attempt-returns-3 t))
     λ t. explore-lts.spec (explore-calls t)
     (explore-at t)
     explore.Post

@@ -1,24 +1,19 @@
-use mathlib.Core.Path.{refl, ap, _∙_}
+use mathlib.Core.Path.{refl}
 use native.Mathlib.Omega.{arith}
 use borrow.Author.Needs.{needs}
-use denote.Ref.{now}
 use Rattle.keylaws.proofs.WalkGivesPart.{walk-gives-part}
-use Rattle.keylaws.specs.Parts.{partAfter}
-use Rattle.block.specs.declared.situation.Situation.{Situation}
-use Rattle.rules.specs.RulesOf.{rulesOf}
 use Rattle.engine.proofs.key_part.Statement.{statement}
 use Rattle.engine.proofs.key_part.Tie as tie
 
-returns : tie.Need-returns
-returns c =
-    let a = c .before .before .before .before .before .before .before .before .before in
-    walk-gives-part _ _ _ (a .pre .0 .1) _ _ _ _ (a .pre .1 .0) refl (c .before .before .explore .ensures .0)
-    ∙ ap (λ (s : Situation). partAfter (rulesOf (a .args .ask .plan) (now (a .args .events)) (now (a .args .readings))) (a .args .limit) s (a .args .ask .from) (now (a .args .room))) (c .before .before .before .before .pack .ensures)
-
 explore-requires : tie.Need-explore-requires
 explore-requires c κs =
-    let a = c .before .before .before .before .before .before in
-    (omega arith, (omega (arith, a .pre .0), a .pre .1 .1))
+    let a = c .before .before .before .before .before in
+    (omega arith, (omega (arith, a .pre .0), (a .pre .1 .1, c .before .wanted-of .ensures)))
+
+returns : tie.Need-returns
+returns c =
+    let a = c .before .before .before .before .before .before .before .before in
+    walk-gives-part _ _ _ (a .pre .0 .1) _ _ _ _ (a .pre .1 .0) refl (c .before .before .explore .ensures .0)
 
 pub key-part-spec : {M : Type 1} → statement M
 key-part-spec = tie.close (tie.spec (λ c. search needs) (λ c κs. search needs) explore-requires (λ c. search needs) returns)

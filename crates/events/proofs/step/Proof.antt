@@ -1,13 +1,22 @@
 use Prim.Native.Nat.{ℕ}
-use mathlib.Core.Path.{_≡_, sym, ap, _∙_}
-use Rattle.block.specs.declared.situation.Situation.{Situation}
-use Rattle.events.specs.Apply.{accepted, refused, reached, stepped}
+use mathlib.Core.Path.{sym, ap, _∙_}
+use Rattle.packed.specs.Packed.{unpacked}
+use Rattle.events.specs.Apply.{accepted, refused}
 use Rattle.events.proofs.Steps.{as-accepted, as-refused}
 use borrow.Author.Needs.{needs}
 use Rattle.events.proofs.step.Statement.{statement}
 use Rattle.events.proofs.step.Tie as tie
 
+returns : tie.Need-returns
+returns c =
+    let a = c .before .before .args in
+    let e = c .before .refusal .ensures in
+    ap (λ (r : ℕ). refused r (unpacked (a .x))) e ∙ sym (as-refused (a .plan) (unpacked (a .x)) (a .code) (a .arg) (λ z. c .if1 .taken (e ∙ z)))
+
+returns-2 : tie.Need-returns-2
+returns-2 c =
+    let a = c .before .before .before .args in
+    ap accepted (c .next .ensures) ∙ sym (as-accepted (a .plan) (unpacked (a .x)) (a .code) (a .arg) (sym (c .before .before .refusal .ensures) ∙ c .before .if1 .left))
+
 pub step-spec : {M : Type 1} → statement M
-step-spec =
-    tie.close
-    (tie.spec (λ c κs. search needs) (λ c κs. search needs) (λ c. let a = c .before .before .before .args in let e : c .before .refusal .result ≡ stepped (a .plan) (a .x) (a .code) (a .arg) .refusal = c .before .refusal .ensures ∙ ap (λ (y : Situation). stepped (a .plan) y (a .code) (a .arg) .refusal) (c .before .before .pack .ensures) in ap (λ (r : ℕ). refused r (a .x)) e ∙ sym (as-refused (a .plan) (a .x) (a .code) (a .arg) (λ z. c .if1 .taken (e ∙ z)))) (λ c κs. search needs) (λ c κs. search needs) (λ c. let a = c .before .before .before .before .before .args in let e : c .before .before .before .refusal .result ≡ stepped (a .plan) (a .x) (a .code) (a .arg) .refusal = c .before .before .before .refusal .ensures ∙ ap (λ (y : Situation). stepped (a .plan) y (a .code) (a .arg) .refusal) (c .before .before .before .before .pack .ensures) in ap accepted (c .unpacked .ensures ∙ c .before .next .ensures ∙ ap (λ (y : Situation). reached (a .plan) y (a .code) (a .arg)) (c .before .before .before .before .pack .ensures)) ∙ sym (as-accepted (a .plan) (a .x) (a .code) (a .arg) (sym e ∙ c .before .before .if1 .left))))
+step-spec = tie.close (tie.spec (λ c κs. search needs) returns (λ c κs. search needs) returns-2)

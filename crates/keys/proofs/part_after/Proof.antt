@@ -1,62 +1,73 @@
-use Prim.Native.Nat.{_*_}
-use mathlib.Core.Path.{_≡_, refl, sym, _∙_}
+use mathlib.Core.Path.{refl, _∙_}
 use native.Mathlib.Omega.{arith}
-use lib.ListN.{length, length-take}
-use lib.Seq.{length-take-le}
 use borrow.Author.Needs.{needs}
+use Rattle.keys.proofs.Accepted.{bounded, size, situation-there, events-there, readings-there, at-most-24, right-there}
 use Rattle.keys.proofs.SixBytes.{continuation-six}
 use Rattle.keys.proofs.part_after.Statement.{statement}
 use Rattle.keys.proofs.part_after.Tie as tie
 
-events-long : (c : tie.Start) → length (c .args .q .events .bytes) ≡ 24
-events-long c = search needs
+add-items : tie.Need-add-items
+add-items c = let ok = c .before .before .before .before .pre .0 in omega (arith, c .events-end .ensures, bounded _ ok)
 
-readings-long : (c : tie.Start) → length (c .args .q .readings .bytes) ≡ 18
-readings-long c = search needs
+sub-last : tie.Need-sub-last
+sub-last c = let ok = c .before .before .before .before .pre .0 in omega (arith, size _ ok)
 
 six-requires : tie.Need-six-requires
-six-requires c κs =
-    let a = c .before .before .before .before .before .before in
-    continuation-six _ _ (a .pre .0 .2) _ (a .pre .1 .0)
+six-requires c κs = let a = c .before .before .before .before .before .before .before in continuation-six _ _ (bounded _ (a .pre .0) .2) _ (a .pre .1)
 
-array-share-prefix-events : tie.Need-array-share-prefix-events
-array-share-prefix-events c = omega (arith, events-long (c .before .before .before .before .before .before .before .before .before))
+part-situation-in-end : tie.Need-part-situation-in-end
+part-situation-in-end c = let ok = c .before .before .before .before .before .before .before .before .pre .0 in omega (arith, size _ ok)
 
-slice-aggregate-key-part : tie.Need-slice-aggregate-key-part
-slice-aggregate-key-part c = sym (length-take-le _ _ (omega (arith, events-long (c .before .before .before .before .before .before .before .before .before .before))))
+part-key-part-end : tie.Need-part-key-part-end
+part-key-part-end c = let ok = c .before .before .before .before .before .before .before .before .before .before .pre .0 in omega (arith, c .before .before .before .before .before .before .events-end .ensures, size _ ok)
 
-array-share-prefix-readings : tie.Need-array-share-prefix-readings
-array-share-prefix-readings c = omega (arith, readings-long (c .before .before .before .before .before .before .before .before .before .before))
+sub-key-part-2 : tie.Need-sub-key-part-2
+sub-key-part-2 c = let ok = c .before .before .before .before .before .before .before .before .before .before .before .pre .0 in omega (arith, c .before .before .before .before .before .before .before .events-end .ensures, size _ ok)
 
-slice-aggregate-key-part-2 : tie.Need-slice-aggregate-key-part-2
-slice-aggregate-key-part-2 c = sym (length-take-le _ _ (omega (arith, readings-long (c .before .before .before .before .before .before .before .before .before .before .before))))
+part-key-part-start-2 : tie.Need-part-key-part-start-2
+part-key-part-start-2 c = let ok = c .before .before .before .before .before .before .before .before .before .before .before .pre .0 in omega (arith, c .before .before .before .before .before .before .before .events-end .ensures, size _ ok)
 
 key-part-requires : tie.Need-key-part-requires
 key-part-requires c κs =
-    let w = c .before .before .before in
-    let n = w .before .before .before .before in
-    let a = n .before .before .before .before .before in
-    ((omega (arith, length-take (2 * n .wide .result) (a .args .q .events .bytes), events-long a), omega (arith, a .pre .0)), (rw (w .wide3 .ensures .0, w .before .before .six .ensures, n .wide .ensures .0) (a .pre .1 .0), rw (w .before .before .before .wide2 .ensures .0, n .wide .ensures .0) (a .pre .1 .1)))
+    let s = c .before .before .before .before .before in
+    let w = s .before .before in
+    let a = w .before .before .before .before .before .before in
+    let ok = a .pre .0 in
+    let e = w .before .before .events-end .ensures in
+    let l = w .wide .ensures .0 ∙ w .before .length-in .ensures in
+    ((at-most-24 _ ok _ e, omega (arith, l, bounded _ ok)), (rw (events-there _ ok _ e, l, s .six .ensures) (a .pre .1), right-there _ ok _ e _ (s .before .plan-in .ensures)))
 
 returns : tie.Need-returns
 returns c =
-    let w = c .before .before .before .before .before .before in
-    c .before .before .key-part .ensures ∙ rw (w .wide3 .ensures .0, w .before .before .six .ensures, w .before .before .before .wide2 .ensures .0, w .before .before .before .before .wide .ensures .0) refl
+    let s = c .before .before .before .before .before .before .before .before in
+    let w = s .before .before in
+    let a = w .before .before .before .before .before .before in
+    let ok = a .pre .0 in
+    let e = w .before .before .events-end .ensures in
+    c .before .before .key-part .ensures
+    ∙ rw (c .before .before .before .before .before .before .situation-in .ensures ∙ situation-there _ ok, events-there _ ok _ e, readings-there _ ok _ e, s .before .plan-in .ensures, w .wide .ensures .0 ∙ w .before .length-in .ensures, s .six .ensures) refl
 
 pub part-after-spec : {M : Type 1} → statement M
 part-after-spec =
     tie.close
     (tie.spec
     (λ c κs. search needs)
-    (λ c. search needs)
+    add-items
+    sub-last
     (λ c κs. search needs)
-    (λ c. search needs)
+    (λ c κs. search needs)
+    (λ c κs. search needs)
     six-requires
+    (λ c. search needs)
+    (λ c. search needs)
+    part-situation-in-end
     (λ c κs. search needs)
-    array-share-prefix-events
-    slice-aggregate-key-part
-    array-share-prefix-readings
-    slice-aggregate-key-part-2
+    (λ c. search needs)
+    (λ c. search needs)
+    part-key-part-end
+    sub-key-part-2
+    part-key-part-start-2
+    (λ c. search needs)
     key-part-requires
     (λ c. search needs)
     returns)

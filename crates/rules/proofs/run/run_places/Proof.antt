@@ -24,7 +24,7 @@ abbrev μ-loop : tie.MeasureT-loop
 
 loop-again : tie.Need-loop-again Inv-loop μ-loop
 loop-again c =
-    let a = c .before .before .before .before .before .before .before .before .before .before .args in
+    let a = c .before .before .before .before .before .before .before .before .before .args in
     let R = rulesOf (a .plan) (now (a .events)) (now (a .readings)) in
     let l = c .before .before .before .before .before .loop in
     let place = getD (now (a .places)) (l .i) 0 in
@@ -32,18 +32,11 @@ loop-again c =
     (omega arith, sym (sym (l .inv .1) ∙ run-step R (unpacked (l .x)) (now (a .places)) (l .i) (omega arith) ∙ ap (λ (v : Bool). cond v (on (R .next (unpacked (l .x)) place)) (stopped (l .i + 1) (R .refusal (unpacked (l .x)) place))) (eq-eqb _ 0 (sym (c .before .before .refusal-at .ensures) ∙ c .before .if2 .left)) ∙ ap on (sym (c .reached-at .ensures))))
 
 returns : tie.Need-returns Inv-loop μ-loop
-returns c =
-    let a = c .before .before .before .before .before .before .before .args in
-    let R = rulesOf (a .plan) (now (a .events)) (now (a .readings)) in
-    let whole = c .before .before .loop .inv .1 ∙ ap (λ (s : Situation). run R s (now (a .places))) (c .before .before .before .pack .ensures) in
-    rw (c .all-hold .ensures) (sym (sym whole ∙ run-end _ _ _ _ (omega arith)))
+returns c = rw (c .all-hold .ensures) (sym (sym (c .before .before .before .loop .inv .1) ∙ run-end _ _ _ _ (omega arith)))
 
 returns-2 : tie.Need-returns-2 Inv-loop μ-loop
 returns-2 c =
-    let a = c .before .before .before .before .before .before .before .before .before .args in
-    let R = rulesOf (a .plan) (now (a .events)) (now (a .readings)) in
-    let whole = c .before .before .before .before .loop .inv .1 ∙ ap (λ (s : Situation). run R s (now (a .places))) (c .before .before .before .before .before .pack .ensures) in
-    sym (sym whole ∙ run-step _ _ _ _ (omega arith) ∙ rw (ne-eqb _ 0 (λ z. c .if2 .taken (c .before .refusal-at .ensures ∙ z)), c .before .refusal-at .ensures) refl)
+    sym (sym (c .before .before .before .before .loop .inv .1) ∙ run-step _ _ _ _ (omega arith) ∙ rw (ne-eqb _ 0 (λ z. c .if2 .taken (c .before .refusal-at .ensures ∙ z)), c .before .refusal-at .ensures) refl)
 
 pub run-places-spec : {M : Type 1} → statement M
 run-places-spec =
@@ -51,15 +44,15 @@ run-places-spec =
     (tie.spec
     Inv-loop
     μ-loop
-    (λ c κs. search needs)
     (λ c. (omega arith, refl))
+    (λ c κs. search needs)
     (λ c κs. search needs)
     (λ c. search needs)
     (λ c. omega (arith, c .shared-slice-known4 .given (c .before .before .loop .i)))
-    (λ c κs. (omega (arith, c .before .before .before .before .before .before .before .pre .0 .1 (c .before .before .loop .i) (omega arith)), c .before .before .before .before .before .before .before .pre .1 .0))
+    (λ c κs. let a = c .before .before .before .before .before .before in (omega (arith, a .pre .0 .1 (c .before .before .loop .i) (omega arith)), a .pre .1))
     (λ c. search needs)
     (λ c. search needs)
-    (λ c κs. (omega (arith, c .before .before .before .before .before .before .before .before .before .pre .0 .1 (c .before .before .before .before .loop .i) (omega arith)), sym (c .before .refusal-at .ensures) ∙ c .if2 .left))
+    (λ c κs. (omega (arith, c .before .before .before .before .before .before .before .before .pre .0 .1 (c .before .before .before .before .loop .i) (omega arith)), sym (c .before .refusal-at .ensures) ∙ c .if2 .left))
     (λ c. search needs)
     (λ c. search needs)
     loop-again

@@ -23,4 +23,5 @@ block-open-spec =
     (λ c κs. search needs)
     (λ c κs. search needs)
     (λ c κs. search needs)
-    (λ c. let a = c .before .before .before .before .before .before .before .before .args in let x = unpacked (a .x) in rw (c .bslg .ensures, c .before .has2 .ensures, c .before .before .held .ensures, c .before .before .before .has .ensures, c .before .before .before .before .runs .ensures, c .before .before .before .before .before .area-direction .ensures) (ap (λ (t : Station). runs (c .before .before .before .before .before .before .before .owner .result) (areaDirection t) (a .d) and not (a .k ∈ x .occupied) and not (a .k ∈ held x (a .d)) and not (t .bslg)) (c .before .before .before .before .before .before .marks .ensures) ∙ ap (λ (s : Name). runs s (areaDirection (station x s)) (a .d) and not (a .k ∈ x .occupied) and not (a .k ∈ held x (a .d)) and not (station x s .bslg)) (c .before .before .before .before .before .before .before .owner .ensures))))
+    (λ c κs. search needs)
+    (λ c. let a = c .before .before .before .before .before .before .before .before .before .args in let x = unpacked (a .x) in rw (c .bslg .ensures, c .before .has2 .ensures, c .before .before .held .ensures, c .before .before .before .has .ensures, c .before .before .before .before .occupied-sections .ensures, c .before .before .before .before .before .runs .ensures, c .before .before .before .before .before .before .area-direction .ensures) (ap (λ (t : Station). runs (c .before .before .before .before .before .before .before .before .owner .result) (areaDirection t) (a .d) and not (a .k ∈ x .occupied) and not (a .k ∈ held x (a .d)) and not (t .bslg)) (c .before .before .before .before .before .before .before .marks .ensures) ∙ ap (λ (s : Name). runs s (areaDirection (station x s)) (a .d) and not (a .k ∈ x .occupied) and not (a .k ∈ held x (a .d)) and not (station x s .bslg)) (c .before .before .before .before .before .before .before .before .owner .ensures))))

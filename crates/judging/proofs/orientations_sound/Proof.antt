@@ -1,0 +1,22 @@
+-- The clause for the link as it is decides. Assumes nothing.
+use mathlib.Core.Path.{sym, _∙_}
+use borrow.Author.Needs.{needs}
+use Rattle.block.proofs.SoundLaws.{link-up, link-down}
+use Rattle.packed.specs.Packed.{unpacked}
+use Rattle.judging.proofs.orientations_sound.Statement.{statement}
+use Rattle.judging.proofs.orientations_sound.Tie as tie
+
+returns : tie.Need-returns
+returns c =
+    let x = c .before .before .before .before .before .before .before .args .x in
+    let up = sym (c .before .before .before .before .before .before .linked .ensures) ∙ c .before .before .before .before .before .if1 .taken in
+    rw (← link-up (unpacked x) up, up) (cc)
+
+returns-2 : tie.Need-returns-2
+returns-2 c =
+    let x = c .before .before .before .before .before .before .args .x in
+    let down = sym (c .before .before .before .before .before .linked .ensures) ∙ c .before .before .before .before .if1 .left in
+    rw (← link-down (unpacked x) down, down) (cc)
+
+pub orientations-sound-spec : {M : Type 1} → statement M
+orientations-sound-spec = tie.close (tie.spec (λ c κs. search needs) (λ c κs. search needs) (λ c κs. search needs) (λ c κs. search needs) (λ c κs. search needs) (λ c κs. search needs) returns (λ c κs. search needs) (λ c κs. search needs) (λ c κs. search needs) (λ c κs. search needs) returns-2)

@@ -1,0 +1,144 @@
+// The lists of a question, judged: 3 and 4 event by event, then 21.
+ghost use mathlib.Core.Path.{_≡_};
+ghost use Prim.Native.Nat.{_+_, _*_, _/_, _%_, _<_};
+ghost use mathlib.Core.Bool.{true, false};
+ghost use Rattle.listing.specs.Refusal.{event-refusal, events-refusal, listed, listed-twice, readings-in-range, lists-refusal};
+use block::line::Plan;
+use block::refused::ACCEPTED;
+use block::refused::OUT_OF_RANGE;
+use block::refused::UNKNOWN_CODE;
+use block::refused::WRONG_ARGUMENT;
+use events::argument_right;
+use events::known;
+use records::form::wide;
+use sections::has;
+use sections::with_section;
+use signals::readings::reading_in_range;
+
+pub const LONGEST: u8 = 5;
+
+fn event_refusal(plan: Plan, code: u8, arg: u8) -> u8
+    ensures { λ r. ⌜ r ≡ event-refusal plan code arg ⌝ }
+{
+    if !known(code) {
+        return UNKNOWN_CODE;
+    }
+    if !argument_right(plan, code, arg) {
+        return WRONG_ARGUMENT;
+    }
+    ACCEPTED
+}
+
+fn events_refusal(plan: Plan, events: &[u8]) -> u8
+    ensures { λ r. ⌜ r ≡ events-refusal plan (now (events .entry)) ⌝ }
+{
+    let mut left = events;
+    while 2 <= left.len() {
+        let refusal = event_refusal(plan, left[0], left[1]);
+        if refusal != ACCEPTED {
+            return refusal;
+        }
+        left = &left[2..];
+    }
+    ACCEPTED
+}
+
+fn listed(code: u8, arg: u8, events: &[u8]) -> bool
+    ensures { λ r. ⌜ r ≡ listed code arg (now (events .entry)) ⌝ }
+{
+    let mut left = events;
+    while 2 <= left.len() {
+        if (left[0] == code) & (left[1] == arg) {
+            return true;
+        }
+        left = &left[2..];
+    }
+    false
+}
+
+// Whether an event is listed twice: each is compared with those after it.
+fn compared(events: &[u8]) -> bool
+    ensures { λ r. ⌜ r ≡ listed-twice (now (events .entry)) ⌝ }
+{
+    let mut left = events;
+    while 2 <= left.len() {
+        if listed(left[0], left[1], &left[2..]) {
+            return true;
+        }
+        left = &left[2..];
+    }
+    false
+}
+
+// The word, of four, in which an event has its bit.
+fn word_of(code: u8) -> usize
+    ensures { λ r. ⌜ (r ≡ code % 4) × (r < 4) ⌝ }
+{
+    wide(code % 4)
+}
+
+// The bit of an event in that word: few events of a question share one.
+fn bit_of(code: u8, arg: u8) -> u8
+    ensures { λ r. ⌜ (r ≡ (2 * (code / 4) + arg) % 32) × (r < 32) ⌝ }
+{
+    ((2 * wide(code / 4) + wide(arg)) % 32) as u8
+}
+
+// Whether no two events share a bit. Then none is listed twice.
+fn apart(events: &[u8]) -> bool
+    ensures { λ r. ⌜ (r ≡ true → listed-twice (now (events .entry)) ≡ false) ⌝ }
+{
+    let mut seen = [0u64; 4];
+    let mut left = events;
+    while 2 <= left.len() {
+        let word = word_of(left[0]);
+        let bit = bit_of(left[0], left[1]);
+        let before = seen[word];
+        if has(before, bit as u16) {
+            return false;
+        }
+        let after = with_section(before, bit);
+        seen[word] = after;
+        left = &left[2..];
+    }
+    true
+}
+
+fn listed_twice(events: &[u8]) -> bool
+    ensures { λ r. ⌜ r ≡ listed-twice (now (events .entry)) ⌝ }
+{
+    if apart(events) {
+        return false;
+    }
+    compared(events)
+}
+
+fn readings_in_range(plan: Plan, readings: &[u8]) -> bool
+    ensures { λ r. ⌜ r ≡ readings-in-range plan (now (readings .entry)) ⌝ }
+{
+    let mut left = readings;
+    while 3 <= left.len() {
+        if !reading_in_range(plan, left[0], left[1], left[2]) {
+            return false;
+        }
+        left = &left[3..];
+    }
+    true
+}
+
+// 3 and 4 event by event, then 21.
+pub fn lists_refusal(plan: Plan, events: &[u8], readings: &[u8], length: u8) -> u8
+    ensures { λ r. ⌜ r ≡ lists-refusal plan (now (events .entry)) (now (readings .entry)) length ⌝ }
+{
+    let refusal = events_refusal(plan, events);
+    if refusal != ACCEPTED {
+        return refusal;
+    }
+    let short = length <= LONGEST;
+    let twice = listed_twice(events);
+    let readable = readings_in_range(plan, readings);
+    if short & !twice & readable {
+        return ACCEPTED;
+    }
+    OUT_OF_RANGE
+}

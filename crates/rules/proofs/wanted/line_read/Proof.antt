@@ -1,0 +1,12 @@
+use mathlib.Core.Path.{sym, _∙_}
+use borrow.Author.Needs.{needs}
+use Rattle.rules.proofs.wanted.line_read.Statement.{statement}
+use Rattle.rules.proofs.wanted.line_read.Tie as tie
+
+pub line-read-spec : {M : Type 1} → statement M
+line-read-spec =
+    tie.close
+    (tie.spec
+    (λ c κs. search needs)
+    (λ c. rw (sym (c .before .line-free .ensures) ∙ c .if1 .taken))
+    (λ c. rw (sym (c .before .line-free .ensures) ∙ c .if1 .left)))
