@@ -29,6 +29,10 @@ abbrev pub is-first : Plan → Name → ℕ → Bool
 is-first p s k = eqb k (first-section p s)
 
 -- ---- stations and directions
+-- "Station argument: 0 A, 1 B."
+abbrev pub station-named : ℕ → Name
+station-named arg = if eqb arg 1 then StationB else StationA
+
 abbrev pub opposite : Name → Name
 opposite StationA = StationB
 opposite StationB = StationA

@@ -1,7 +1,10 @@
 // The line: n sections, numbered from A, and a frontier. Sections 1 to b are A's area, the others B's.
 ghost use mathlib.Core.Path.{_≡_};
 ghost use Prim.Native.Nat.{_+_, _-_};
-ghost use Rattle.block.specs.Line.{isPlan, is-section, owner, first-section, is-first, opposite, away, toward, entrance, terminus, before, after, across-frontier, direction-of, section-of, is-signal, is-exit, is-block-signal};
+ghost use Rattle.block.specs.Judged.{plan-judged};
+ghost use Rattle.block.specs.Line.{isPlan, is-section, owner, first-section, is-first, station-named, opposite, away, toward, entrance, terminus, before, after, across-frontier, direction-of, section-of, is-signal, is-exit, is-block-signal};
+use super::refused::ACCEPTED;
+use super::refused::NO_PLAN;
 
 pub struct Plan {
     pub sections: u8,
@@ -92,6 +95,26 @@ impl Plan {
         let exit = self.is_exit(d, k as u16);
         self.is_signal(signal) & !exit
     }
+}
+
+// 0 where it is a plan, else the refusal.
+pub fn plan_judged(plan: Plan) -> u8
+    ensures { λ r. ⌜ r ≡ plan-judged plan ⌝ }
+{
+    if plan.is_plan() {
+        return ACCEPTED;
+    }
+    NO_PLAN
+}
+
+// "Station argument: 0 A, 1 B."
+pub fn station_named(arg: u8) -> Name
+    ensures { λ r. ⌜ r ≡ station-named arg ⌝ }
+{
+    if arg == 1 {
+        return Name::StationB;
+    }
+    Name::StationA
 }
 
 pub fn direction_of(signal: u8) -> Direction

@@ -124,7 +124,10 @@ fn explore(
 {
     let own = own_answer(ask, x, at, readings, room);
     if own.more {
-        return own;
+        return Part {
+            count: own.count,
+            more: true,
+        };
     }
     if at.left == 0 {
         return own;
@@ -164,7 +167,10 @@ fn attempt(
                 if ends_answer(x, on, ask, events, readings, place) {
                     let part = put_slot(grow_slot(slot, depth, place), count, room);
                     if part.more {
-                        return part;
+                        return Part {
+                            count: part.count,
+                            more: true,
+                        };
                     }
                     count = part.count;
                 }
@@ -179,7 +185,10 @@ fn attempt(
                 let reached = reached_at(ask.plan, x, events, place);
                 let part = explore(reached, node, ask, events, readings, room);
                 if part.more {
-                    return part;
+                    return Part {
+                        count: part.count,
+                        more: true,
+                    };
                 }
                 count = part.count;
             }

@@ -3,13 +3,12 @@ use Prim.Native.Nat.{ℕ}
 use mathlib.Core.Bool.{Bool, not}
 use lib.Dec.{eqb, leb}
 use Rattle.sections.specs.Words.{_and_, _or_, if_then_else_}
-use Rattle.block.specs.Line.{is-section, owner, direction-of, section-of, is-block-signal}
+use Rattle.block.specs.Line.{is-section, owner, station-named, direction-of, section-of, is-block-signal}
 use Rattle.block.specs.Situation.{seen-from}
 use Rattle.block.specs.Judged.{judged}
 use Rattle.block.specs.Checks.{refusal}
 use Rattle.block.specs.declared.line.Plan.{Plan}
 use Rattle.block.specs.declared.line.Name.{Name}
-use Rattle.block.specs.declared.line.Name.the-variants.{StationA, StationB}
 use Rattle.block.specs.declared.situation.Situation.{Situation}
 use Rattle.packed.specs.Packed.{unpacked}
 use Rattle.events.specs.Event.{Place}
@@ -37,10 +36,6 @@ argument-right p code arg =
     if of-section code then is-section p arg else
     if of-link code then eqb arg 0 else
     leb arg 1
-
--- "Station argument: 0 A, 1 B."
-abbrev pub station-named : ℕ → Name
-station-named arg = if eqb arg 1 then StationB else StationA
 
 -- "Own is the station named"; of a section or a signal it is the owner, of the link A stands for it
 abbrev pub named : Plan → ℕ → ℕ → Name

@@ -1,11 +1,11 @@
 // Orders and happenings: an event, as its two bytes, on a situation that is kept as A sees it.
 ghost use mathlib.Core.Path.{_≡_};
 ghost use Rattle.packed.specs.Packed.{unpacked};
-ghost use Rattle.events.specs.Apply.{known, of-signal, of-section, of-link, argument-right, station-named, own-refusal, reached, stepped, applied, outcome};
-use block::line::Name;
+ghost use Rattle.events.specs.Apply.{known, of-signal, of-section, of-link, argument-right, own-refusal, reached, stepped, applied, outcome};
 use block::line::Plan;
 use block::line::direction_of;
 use block::line::section_of;
+use block::line::station_named;
 use block::refused::UNKNOWN_CODE;
 use block::refused::WRONG_ARGUMENT;
 use judging::judged;
@@ -54,16 +54,6 @@ pub fn argument_right(plan: Plan, code: u8, arg: u8) -> bool
         return arg == 0;
     }
     arg <= 1
-}
-
-// "Station argument: 0 A, 1 B."
-fn station_named(arg: u8) -> Name
-    ensures { λ r. ⌜ r ≡ station-named arg ⌝ }
-{
-    if arg == 1 {
-        return Name::StationB;
-    }
-    Name::StationA
 }
 
 // The event's own refusal, of a code that is known and an argument that is right. What a section, a signal or the link is refused for is

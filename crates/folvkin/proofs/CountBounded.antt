@@ -9,7 +9,7 @@ use Rattle.keylaws.specs.Continuation.{isContinuation}
 use Rattle.keylaws.specs.Parts.{partAfter}
 use Rattle.keylaws.proofs.KeyIsBounded.{part-few as few}
 use Rattle.paper.specs.Read.{readOf}
-use Rattle.paper.specs.declared.question.Question.{Question}
+use Rattle.paper.specs.Question.{Question}
 use Rattle.keys.specs.Key.{rules, Bounded}
 use Rattle.keys.specs.Calls.{Fetch, nothing, given, part-of, fetched}
 use Rattle.keys.proofs.Accepted.{bounded}

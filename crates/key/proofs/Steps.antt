@@ -14,7 +14,7 @@ use Rattle.keylaws.specs.Parts.{Part, handed, partAfter, lastSlot}
 use Rattle.keylaws.proofs.SlotsOfWords.{start-continues}
 use Rattle.keylaws.proofs.AfterContinuation.{after-the-start}
 use Rattle.paper.specs.Read.{readOf}
-use Rattle.paper.specs.declared.question.Question.{Question}
+use Rattle.paper.specs.Question.{Question}
 use Rattle.keys.specs.Key.{Bounded, rules, key-of}
 use Rattle.keys.specs.Calls.{Fetch, left-by, nothing, given, fetched}
 use Rattle.keys.specs.declared.Fetched.{Fetched}

@@ -2,7 +2,7 @@
 use lib.ListN.{length}
 use lib.Dec.{eqb}
 use Rattle.sections.specs.Words.{if_then_else_}
-use Rattle.paper.specs.declared.read.Read.{Read}
+use Rattle.paper.specs.Read.{Read}
 use Rattle.keys.specs.Key.{key-of}
 use Rattle.key.specs.declared.Ending.{Ending}
 

@@ -39,8 +39,8 @@ module _ (R : Rules) (f : Bool → R .Situation → List Word) (s : R .Situation
   -- an event that is accepted: what it leads to left no room, or the events after it went on
   module _ (u : R .Situation) (y : List ℕ) (l : List ℕ) (n : ℕ) (m : Bool) (h : p ≤ R .events) (r : accepts R s p ≡ true) (eu : u ≡ R .next s p) (ey : y ≡ grow x d p)
       (e : handed l n m ≡ put o (map (grows y (d + 1)) (f on u))) where
-    pub try-full : m ≡ true → handed l n m ≡ put o (map (grows x d) (tries R f s on p (R .events + 1 - p)))
-    try-full z = rw (accepted h r, ← eu, ← ey) (put-stop l n m o _ _ e z)
+    pub try-full : m ≡ true → handed l n true ≡ put o (map (grows x d) (tries R f s on p (R .events + 1 - p)))
+    try-full z = ap (handed l n) (sym z) ∙ rw (accepted h r, ← eu, ← ey) (put-stop l n m o _ _ e z)
 
     pub try-on : (b : Part) → m ≡ false → b ≡ put (handed l n false) (map (grows x d) (tries R f s false (p + 1) (R .events + 1 - (p + 1)))) → b ≡ put o (map (grows x d) (tries R f s on p (R .events + 1 - p)))
     try-on b z g = rw (accepted h r, ← eu, ← ey) (put-on l n m o b _ _ e z g)
@@ -59,9 +59,12 @@ module _ (R : Rules) (on : Bool) (cont : List ℕ) (d : ℕ) (s : R .Situation) 
   unfolding walk
   node-leaf k h = rw h e
 
-  pub node-full : (k : ℕ) → m ≡ true → handed l n m ≡ put o (map (grows x d) (walk R k (drop (d + 1) cont) on s))
-  node-full zero z = node-leaf 0 refl
-  node-full (suc k) z = rw node (put-stop l n m o _ _ e z)
+  full : (k : ℕ) → m ≡ true → handed l n m ≡ put o (map (grows x d) (walk R k (drop (d + 1) cont) on s))
+  full zero z = node-leaf 0 refl
+  full (suc k) z = rw node (put-stop l n m o _ _ e z)
+
+  pub node-full : (k : ℕ) → m ≡ true → handed l n true ≡ put o (map (grows x d) (walk R k (drop (d + 1) cont) on s))
+  node-full k z = ap (handed l n) (sym z) ∙ full k z
 
   pub node-on : (b : Part) (k : ℕ) → ¬ (k ≡ 0) → (q : ℕ) → (a : Bool) → a ≡ aims on (getD cont (d + 1) 0) → q ≡ starts on (getD cont (d + 1) 0) → m ≡ false
       → b ≡ put (handed l n false) (map (grows x d) (tries R (walk R (k - 1) (drop (d + 1 + 1) cont)) s a q (R .events + 1 - q))) → b ≡ put o (map (grows x d) (walk R k (drop (d + 1) cont) on s))

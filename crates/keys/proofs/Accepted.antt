@@ -13,8 +13,7 @@ use Rattle.records.specs.Situation.{situation-of}
 use Rattle.rules.specs.Judged.{all-right}
 use Rattle.listing.specs.Refusal.{_unless_, event-refusal, events-refusal}
 use Rattle.listing.proofs.RightLists.{or-else-none, unless-none}
-use Rattle.paper.specs.Question.{events-of, readings-of}
-use Rattle.paper.specs.declared.question.Question.{Question}
+use Rattle.paper.specs.Question.{Question, events-of, readings-of}
 use Rattle.paper.proofs.AcceptedQuestions.{events-counted, readings-counted, length-at-most-5, lists, read-is-accepted}
 use Rattle.paper.proofs.AcceptedLayout.{AcceptedLayout, accepted-layout}
 use Rattle.keys.specs.Key.{Accepted, question-in, Bounded, rules}

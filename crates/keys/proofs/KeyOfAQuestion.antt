@@ -22,7 +22,7 @@ use Rattle.keylaws.proofs.PartsJoined as parts
 use Rattle.keylaws.proofs.CandidateInKey as candidate
 use Rattle.keylaws.proofs.SlotsOfWords.{is-slot}
 use Rattle.keylaws.proofs.Among.{of-map}
-use Rattle.paper.specs.declared.question.Question.{Question}
+use Rattle.paper.specs.Question.{Question}
 use Rattle.keys.specs.Key.{Bounded, rules, key-of}
 use Rattle.keys.specs.Calls.{given, part-of, told, not-run, slot-run}
 use Rattle.keys.specs.declared.Ran.{Ran}

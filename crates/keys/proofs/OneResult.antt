@@ -2,7 +2,7 @@
 use Prim.Native.Nat.{ℕ}
 use mathlib.Core.Path.{_≡_, sym, ap, _∙_}
 use mathlib.Core.List.{List}
-use Rattle.paper.specs.declared.read.Read.{Read}
+use Rattle.paper.specs.Read.{Read}
 use Rattle.keys.specs.Calls.{Fetch, left-by, fetched, ran}
 use Rattle.keys.specs.declared.Fetched.{Fetched}
 use Rattle.keys.specs.declared.Ran.{Ran}

@@ -9,8 +9,8 @@ use Rattle.keylaws.specs.Slots.{wordOf, isSlot}
 use Rattle.keylaws.specs.Continuation.{isContinuation}
 use Rattle.keylaws.specs.Parts.{Part, handed, partAfter}
 use Rattle.keylaws.specs.Run.{Outcome, run}
-use Rattle.paper.specs.declared.question.Question.{Question}
-use Rattle.paper.specs.declared.read.Read.{Read}
+use Rattle.paper.specs.Question.{Question}
+use Rattle.paper.specs.Read.{Read}
 use Rattle.keys.specs.Key.{rules}
 use Rattle.keys.specs.declared.Fetched.{Fetched}
 use Rattle.keys.specs.declared.Ran.{Ran}

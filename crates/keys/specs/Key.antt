@@ -5,9 +5,8 @@ use mathlib.Core.List.{List}
 use Rattle.keylaws.specs.Rules.{Rules, Word}
 use Rattle.keylaws.specs.Key.{answers}
 use Rattle.rules.specs.RulesOf.{rulesOf}
-use Rattle.paper.specs.Question.{events-of, readings-of}
+use Rattle.paper.specs.Question.{Question, events-of, readings-of}
 use Rattle.paper.specs.Read.{readOf}
-use Rattle.paper.specs.declared.question.Question.{Question}
 
 -- bytes that are accepted, and the question that bytes are read as
 abbrev pub Accepted : List ℕ → Type 0

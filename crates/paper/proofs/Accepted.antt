@@ -10,13 +10,10 @@ use Rattle.records.proofs.Forms.{both}
 use Rattle.block.specs.Line.{isPlan}
 use Rattle.block.specs.Sound.{sound}
 use Rattle.block.specs.Judged.{judged}
-use Rattle.block.specs.declared.line.Plan.{Plan}
-use Rattle.block.specs.declared.situation.Situation.{Situation}
 use Rattle.listing.specs.Refusal.{_unless_, lists-refusal}
 use Rattle.listing.proofs.RightLists.{or-else-none, unless-none}
-use Rattle.paper.specs.Question.{events-of, readings-of}
+use Rattle.paper.specs.Question.{Question, events-of, readings-of}
 use Rattle.paper.specs.Refusal.{counts-in-range, refusalOf}
-use Rattle.paper.specs.declared.question.Question.{Question}
 
 pub counts-right : (events readings : ℕ) → counts-in-range events readings ≡ true → (events ≤ 12) × (readings ≤ 6)
 unfolding counts-in-range

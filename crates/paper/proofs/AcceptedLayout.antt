@@ -9,17 +9,15 @@ use lib.ListN.{length, take, drop, getD, length-drop}
 use lib.Seq.{drop-drop, getD-drop}
 use Rattle.records.specs.Form.{stands}
 use Rattle.records.specs.Plan.{plan-of}
-use Rattle.records.specs.Situation.{situation-of}
+use Rattle.records.specs.Situation.{situation-of, SituationRead}
 use Rattle.records.specs.Length.{LN, length-read}
 use Rattle.records.specs.declared.plan.PlanRead.{PlanRead}
-use Rattle.records.specs.declared.situation.SituationRead.{SituationRead}
 use Rattle.records.specs.declared.length.LengthRead.{LengthRead}
 use Rattle.records.proofs.Forms.{stands-long}
 use Rattle.records.proofs.Front.{taken-is-there}
 use Rattle.records.proofs.ListLaws.{events-first, events-used, events-items, readings-used, readings-items}
-use Rattle.paper.specs.Question.{events-of, readings-of}
+use Rattle.paper.specs.Question.{Question, events-of, readings-of}
 use Rattle.paper.specs.Read.{after-lb, si, after-si, ev, after-ev, rd, after-rd, ln, question-read, readOf}
-use Rattle.paper.specs.declared.question.Question.{Question}
 use Rattle.paper.proofs.WholeForm.{Whole, whole, accepted-bytes}
 use Rattle.paper.proofs.InPlace.{lb-is, si-here, si-is, ln-here, ln-stands}
 use Rattle.paper.proofs.AcceptedQuestions.{question-is-read}

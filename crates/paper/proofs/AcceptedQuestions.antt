@@ -15,11 +15,9 @@ use Rattle.signals.specs.Readings.{reading-in-range}
 use Rattle.records.proofs.ListLaws.{events-are-24, events-are-filled, readings-are-18, readings-are-filled}
 use Rattle.listing.specs.Refusal.{listed-twice}
 use Rattle.listing.proofs.RightLists.{each-event, each-reading, ListsRight, lists-right}
-use Rattle.paper.specs.Question.{events-of, readings-of, zero-filled, Shaped}
+use Rattle.paper.specs.Question.{Question, events-of, readings-of, zero-filled, Shaped}
 use Rattle.paper.specs.Refusal.{refusalOf}
-use Rattle.paper.specs.Read.{after-si, after-ev, question-read, readOf}
-use Rattle.paper.specs.declared.question.Question.{Question}
-use Rattle.paper.specs.declared.read.Read.{Read}
+use Rattle.paper.specs.Read.{after-si, after-ev, question-read, Read, readOf}
 use Rattle.paper.proofs.Accepted.{counts-right, counts-least, accepted}
 use Rattle.paper.proofs.WholeForm.{whole, accepted-bytes}
 

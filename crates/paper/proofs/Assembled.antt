@@ -8,18 +8,16 @@ use lib.ListN.{length, take, drop}
 use lib.Dec.{eqb, leb}
 use Rattle.sections.specs.Words.{_and_, if_then_else_}
 use Rattle.records.specs.Plan.{plan-read}
-use Rattle.records.specs.Situation.{situation-read}
+use Rattle.records.specs.Situation.{SituationRead, situation-read}
 use Rattle.records.specs.Lists.{events-read, readings-read}
 use Rattle.records.specs.Length.{length-read}
 use Rattle.records.specs.declared.plan.PlanRead.{PlanRead}
-use Rattle.records.specs.declared.situation.SituationRead.{SituationRead}
 use Rattle.records.specs.declared.lists.EventsRead.{EventsRead}
 use Rattle.records.specs.declared.lists.ReadingsRead.{ReadingsRead}
 use Rattle.records.specs.declared.length.LengthRead.{LengthRead}
 use Rattle.records.proofs.Forms.{part-from}
-use Rattle.paper.specs.Refusal.{refusalOf}
+use Rattle.paper.specs.Question.{Question}
 use Rattle.paper.specs.Read.{whole-form, question-read, answered, refused, readOf}
-use Rattle.paper.specs.declared.question.Question.{Question}
 
 abbrev pub part : ℕ → List ℕ → List ℕ
 part k s = take (length s - k) (drop k s)
@@ -130,13 +128,3 @@ module _ (bytes : List ℕ) (a : PlanRead) (b : SituationRead) (c : EventsRead) 
   all-there e h₅ k₁ k₂ k₃ k₄ k₅ end =
       assembled bytes a b c d e h₁ h₂ h₃ h₄ h₅ true
       (rw (le-leb 1 (a .used) k₁, le-leb 1 (b .used) k₂, le-leb 1 (c .used) k₃, le-leb 1 (d .used) k₄, le-leb 1 (e .used) k₅, eq-eqb (length (part (e .used) left)) 0 end))
-
--- ---- the question that the records make, with n as its refusal
-module _ (q : Question) (n : ℕ) (e : n ≡ refusalOf q) where
-  pub answered-refusal : (n ≡ 0 → ⊥) → answered q ≡ refused n
-  unfolding answered
-  answered-refusal h = rw (← e, ne-eqb n 0 h)
-
-  pub answered-question : n ≡ 0 → answered q ≡ record { refusal = 0; question = q }
-  unfolding answered
-  answered-question h = rw (← e, eq-eqb n 0 h)

@@ -11,9 +11,7 @@ use Rattle.sections.specs.Sections.{_∈_}
 use Rattle.sections.proofs.Tests.{holds-is}
 use Rattle.block.specs.Line.{isPlan}
 use Rattle.block.specs.Sound.{sound}
-use Rattle.block.specs.declared.situation.Situation.{Situation}
-use Rattle.records.specs.Situation.{codes-in-range, situation-of}
-use Rattle.records.specs.declared.situation.SituationRead.{SituationRead}
+use Rattle.records.specs.Situation.{codes-in-range, situation-of, SituationRead}
 use Rattle.records.proofs.ListLaws.{events-count, readings-count}
 use Rattle.records.proofs.BytesNoSituationHas.{code-out-of-range, occupied-no-section, held-towards-B-no-section, held-towards-A-no-section, held-exit-signal-A, held-exit-signal-B}
 use Rattle.paper.specs.Refusal.{counts-in-range, refusalOf}

@@ -12,11 +12,10 @@ use Rattle.block.specs.Judged.{judged}
 use Rattle.block.specs.declared.line.Plan.{Plan}
 use Rattle.records.specs.Form.{stands, counted, filled}
 use Rattle.records.specs.Plan.{LB, plan-of, plan-read}
-use Rattle.records.specs.Situation.{SI, no-situation, situation-of, situation-read}
+use Rattle.records.specs.Situation.{SI, no-situation, situation-of, SituationRead, situation-read}
 use Rattle.records.specs.Lists.{EV, RD, no-events, no-readings, events-read, readings-read}
 use Rattle.records.specs.Length.{LN, length-read}
 use Rattle.records.specs.declared.plan.PlanRead.{PlanRead}
-use Rattle.records.specs.declared.situation.SituationRead.{SituationRead}
 use Rattle.records.specs.declared.lists.EventsRead.{EventsRead}
 use Rattle.records.specs.declared.lists.ReadingsRead.{ReadingsRead}
 use Rattle.records.specs.declared.length.LengthRead.{LengthRead}
@@ -24,11 +23,9 @@ use Rattle.records.proofs.Forms.{part-from, stands-long}
 use Rattle.records.proofs.Front.{taken-is-there}
 use Rattle.records.proofs.ListLaws.{ListThere, list-there, items-in-place}
 use Rattle.listing.specs.Refusal.{_or-else_, lists-refusal}
-use Rattle.paper.specs.Question.{events-of, readings-of}
+use Rattle.paper.specs.Question.{Question, events-of, readings-of}
 use Rattle.paper.specs.Refusal.{counts-in-range, refusalOf}
-use Rattle.paper.specs.Read.{answered, refused, readOf}
-use Rattle.paper.specs.declared.question.Question.{Question}
-use Rattle.paper.specs.declared.read.Read.{Read}
+use Rattle.paper.specs.Read.{Read, answered, refused, readOf}
 use Rattle.paper.proofs.Assembled.{part, lb-missing, si-missing, ev-missing, rd-missing, ln-missing, bytes-left-over, all-there}
 
 -- ---- the records, each read off the front of what is left
@@ -116,9 +113,12 @@ pub lb-is : (s : List ℕ) → 1 ≤ plan-read s .used → plan-read s ≡ lb-he
 unfolding plan-read
 lb-is s h = rw (taken-is-there (λ (r : PlanRead). r .used) (stands LB 2 s) _ _ refl h)
 
-pub si-is : (s : List ℕ) → 1 ≤ situation-read s .used → situation-read s ≡ si-here s
+pub si-stood : (s : List ℕ) → 1 ≤ situation-read s .used → stands SI 19 s ≡ true
 unfolding situation-read
-si-is s h = rw (taken-is-there (λ (r : SituationRead). r .used) (stands SI 19 s) _ _ refl h)
+si-stood s h = taken-is-there (λ (r : SituationRead). r .used) (stands SI 19 s) _ _ refl h
+
+pub si-is : (s : List ℕ) → 1 ≤ situation-read s .used → situation-read s ≡ si-here s
+si-is s h = sym (si-stands s (si-stood s h))
 
 -- ---- the refusal
 number : (bytes : List ℕ) (n : ℕ) → readOf bytes ≡ refused n → n ≡ readOf bytes .refusal

@@ -12,9 +12,8 @@ use Rattle.records.specs.Length.{length-written}
 use Rattle.records.proofs.Forms.{part-from}
 use Rattle.records.proofs.SituationLaws.{situation-size}
 use Rattle.records.proofs.ListLaws.{list-size}
-use Rattle.paper.specs.Question.{written}
+use Rattle.paper.specs.Question.{Question, written}
 use Rattle.paper.specs.Write.{laid}
-use Rattle.paper.specs.declared.question.Question.{Question}
 
 -- a form is laid, then another into the part after it
 pub onto : (n : ℕ) (a b room first part : List ℕ) → length a ≡ n → first ≡ laid a room → part ≡ laid b (take (length first - n) (drop n first))

@@ -9,3 +9,4 @@ pub mod PartsAreRefused
 pub mod BytesNoSituationHas
 pub mod AcceptedQuestions
 pub mod AcceptedLayout
+pub mod ReadInTurn

@@ -10,10 +10,9 @@ use Rattle.sections.proofs.Tests.{holds-is}
 use Rattle.block.specs.Sound.{sound}
 use Rattle.records.specs.Form.{stands, Bytes}
 use Rattle.records.specs.Plan.{plan-written}
-use Rattle.records.specs.Situation.{SI, situation-written, codes-in-range, situation-of, situation-read}
+use Rattle.records.specs.Situation.{SI, situation-written, codes-in-range, situation-of, SituationRead, situation-read}
 use Rattle.records.specs.Lists.{events-written, readings-written}
 use Rattle.records.specs.Length.{length-written}
-use Rattle.records.specs.declared.situation.SituationRead.{SituationRead}
 use Rattle.block.specs.declared.line.Plan.{Plan}
 use Rattle.records.proofs.Front.{taken-is-there}
 use Rattle.records.proofs.PlanLaws.{plan-has-one-form}
@@ -22,8 +21,7 @@ use Rattle.records.proofs.ListLaws.{events-have-one-form, readings-have-one-for
 use Rattle.records.proofs.LengthLaws.{length-has-one-form}
 use Rattle.records.proofs.BytesNoSituationHas.{code-out-of-range}
 use Rattle.paper.specs.Question.{written}
-use Rattle.paper.specs.Read.{lb, after-lb, si, after-si, ev, after-ev, rd, after-rd, ln, after-ln, question-read, readOf}
-use Rattle.paper.specs.declared.read.Read.{Read}
+use Rattle.paper.specs.Read.{lb, after-lb, si, after-si, ev, after-ev, rd, after-rd, ln, after-ln, question-read, Read, readOf}
 use Rattle.paper.proofs.Accepted.{accepted}
 use Rattle.paper.proofs.WholeForm.{whole, accepted-bytes, nothing-left}
 

@@ -15,11 +15,9 @@ use Rattle.records.proofs.PlanLaws.{plan-front}
 use Rattle.records.proofs.SituationLaws.{situation-front}
 use Rattle.records.proofs.ListLaws.{events-front, readings-front}
 use Rattle.records.proofs.LengthLaws.{length-front}
-use Rattle.paper.specs.Question.{written, Shaped}
+use Rattle.paper.specs.Question.{Question, written, Shaped}
 use Rattle.paper.specs.Refusal.{refusalOf}
-use Rattle.paper.specs.Read.{after-lb, after-si, after-ev, after-rd, after-ln, whole-form, refused, readOf}
-use Rattle.paper.specs.declared.question.Question.{Question}
-use Rattle.paper.specs.declared.read.Read.{Read}
+use Rattle.paper.specs.Read.{after-lb, after-si, after-ev, after-rd, after-ln, whole-form, Read, refused, readOf}
 use Rattle.paper.proofs.WholeForm.{whole, accepted-bytes}
 use Rattle.paper.proofs.WrittenIsRead.{written-is-read}
 

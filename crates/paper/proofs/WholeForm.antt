@@ -9,10 +9,9 @@ use lib.ListN.{length}
 use lib.Dec.{eqb, leb}
 use Rattle.sections.specs.Words.{_and_, if_then_else_}
 use Rattle.records.proofs.Forms.{both}
+use Rattle.paper.specs.Question.{Question}
 use Rattle.paper.specs.Refusal.{refusalOf}
 use Rattle.paper.specs.Read.{lb, si, ev, rd, ln, after-ln, whole-form, question-read, answered, refused, readOf}
-use Rattle.paper.specs.declared.question.Question.{Question}
-use Rattle.paper.specs.declared.read.Read.{Read}
 
 -- each record is there, and nothing is left
 pub record Whole (bytes : List ℕ) : Type 0 where

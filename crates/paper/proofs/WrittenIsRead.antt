@@ -8,11 +8,10 @@ use borrow.Author.Tests.{le-leb}
 use lib.ListN.{length}
 use lib.Seq.{drop-at}
 use Rattle.records.specs.Plan.{plan-written}
-use Rattle.records.specs.Situation.{situation-written}
+use Rattle.records.specs.Situation.{situation-written, SituationRead}
 use Rattle.records.specs.Lists.{EV, RD, events-written, events-filled, readings-written, readings-filled}
 use Rattle.records.specs.Length.{length-written}
 use Rattle.records.specs.declared.plan.PlanRead.{PlanRead}
-use Rattle.records.specs.declared.situation.SituationRead.{SituationRead}
 use Rattle.records.specs.declared.lists.EventsRead.{EventsRead}
 use Rattle.records.specs.declared.lists.ReadingsRead.{ReadingsRead}
 use Rattle.records.specs.declared.length.LengthRead.{LengthRead}
@@ -20,11 +19,9 @@ use Rattle.records.proofs.PlanLaws.{plan-written-is-read}
 use Rattle.records.proofs.SituationLaws.{situation-written-is-read}
 use Rattle.records.proofs.ListLaws.{items-kept, list-size, events-written-are-read, readings-written-are-read}
 use Rattle.records.proofs.LengthLaws.{length-written-is-read}
-use Rattle.paper.specs.Question.{written, zero-filled, Shaped}
+use Rattle.paper.specs.Question.{Question, written, zero-filled, Shaped}
 use Rattle.paper.specs.Refusal.{refusalOf}
 use Rattle.paper.specs.Read.{answered, readOf}
-use Rattle.paper.specs.declared.question.Question.{Question}
-use Rattle.paper.specs.declared.read.Read.{Read}
 use Rattle.paper.proofs.Accepted.{counts-right, counts-least, accepted}
 use Rattle.paper.proofs.Assembled.{read-in-turn}
 use Rattle.paper.proofs.Laid.{plan-length, situation-length, length-length}

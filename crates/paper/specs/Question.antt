@@ -4,11 +4,34 @@ use Prim.Native.Nat.{ℕ, _*_}
 use mathlib.Core.Path.{_≡_}
 use mathlib.Core.List.{List, _++_}
 use lib.ListN.{length, take}
+use Rattle.block.specs.declared.line.Plan.{Plan}
+use Rattle.block.specs.declared.situation.Situation.{Situation}
+use Rattle.packed.specs.Packed.{unpacked}
 use Rattle.records.specs.Plan.{plan-written}
 use Rattle.records.specs.Situation.{situation-written}
 use Rattle.records.specs.Lists.{events-written, events-filled, readings-written, readings-filled}
 use Rattle.records.specs.Length.{length-written}
-use Rattle.paper.specs.declared.question.Question.{Question}
+use Rattle.records.specs.declared.lists.Events.{Events}
+use Rattle.records.specs.declared.lists.Readings.{Readings}
+use Rattle.paper.specs.declared.question.Question.{Question as Packed}
+
+-- the permitted events, the readings that an answer must lead to, and how many events an answer may have
+pub record Question : Type 0 where
+  pub plan : Plan
+  pub situation : Situation
+  pub events : Events
+  pub readings : Readings
+  pub length : ℕ
+
+-- what a question of the program asks: its situation is packed
+abbrev pub asked : Packed → Question
+asked q = record {
+  plan = q .plan;
+  situation = unpacked (q .situation);
+  events = q .events;
+  readings = q .readings;
+  length = q .length;
+}
 
 -- the bytes of the events that are listed, and of the readings
 abbrev pub events-of : Question → List ℕ

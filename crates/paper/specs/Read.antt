@@ -8,17 +8,16 @@ use Rattle.sections.specs.Words.{_and_, if_then_else_}
 use Rattle.sections.specs.Sections as sections
 use Rattle.block.specs.Situation.{blank, nobody}
 use Rattle.records.specs.Plan.{plan-of, plan-read}
-use Rattle.records.specs.Situation.{situation-read}
+use Rattle.records.specs.Situation.{SituationRead, situation-read}
 use Rattle.records.specs.Lists.{no-events, no-readings, events-read, readings-read}
 use Rattle.records.specs.Length.{length-read}
 use Rattle.records.specs.declared.plan.PlanRead.{PlanRead}
-use Rattle.records.specs.declared.situation.SituationRead.{SituationRead}
 use Rattle.records.specs.declared.lists.EventsRead.{EventsRead}
 use Rattle.records.specs.declared.lists.ReadingsRead.{ReadingsRead}
 use Rattle.records.specs.declared.length.LengthRead.{LengthRead}
+use Rattle.paper.specs.Question.{Question, asked}
 use Rattle.paper.specs.Refusal.{refusalOf}
-use Rattle.paper.specs.declared.question.Question.{Question}
-use Rattle.paper.specs.declared.read.Read.{Read}
+use Rattle.paper.specs.declared.read.Read.{Read as Packed}
 
 -- ---- the records, each read off what is left of the bytes
 module _ (bytes : List ℕ) where
@@ -72,6 +71,14 @@ module _ (bytes : List ℕ) where
   }
 
 -- ---- the question, or its refusal
+pub record Read : Type 0 where
+  pub refusal : ℕ
+  pub question : Question
+
+-- what a call tells that reads a question
+abbrev pub told : Packed → Read
+told r = record { refusal = r .refusal; question = asked (r .question) }
+
 abbrev pub zeros : Question
 zeros = record {
   plan = plan-of 0 0;

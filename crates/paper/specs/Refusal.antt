@@ -6,8 +6,7 @@ use lib.Dec.{leb}
 use Rattle.sections.specs.Words.{_and_}
 use Rattle.block.specs.Judged.{judged}
 use Rattle.listing.specs.Refusal.{_unless_, _or-else_, lists-refusal}
-use Rattle.paper.specs.Question.{events-of, readings-of}
-use Rattle.paper.specs.declared.question.Question.{Question}
+use Rattle.paper.specs.Question.{Question, events-of, readings-of}
 
 -- "EV, count 1..12"; "RD, count 0..6"
 unfoldable pub counts-in-range : ℕ → ℕ → Bool

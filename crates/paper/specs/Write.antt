@@ -5,9 +5,8 @@ use lib.ListN.{length, drop}
 use lib.Dec.{eqb, leb}
 use Rattle.sections.specs.Words.{if_then_else_}
 use Rattle.listing.specs.Refusal.{_unless_, _or-else_}
-use Rattle.paper.specs.Question.{written}
+use Rattle.paper.specs.Question.{Question, written}
 use Rattle.paper.specs.Refusal.{refusalOf}
-use Rattle.paper.specs.declared.question.Question.{Question}
 use Rattle.paper.specs.declared.write.Written.{Written}
 
 -- "24 room .. too short for a question being written"

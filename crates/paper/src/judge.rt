@@ -3,13 +3,13 @@ ghost use mathlib.Core.Path.{_≡_};
 ghost use Prim.Native.Nat.{_*_, _≤_};
 ghost use lib.ListN.{take};
 ghost use Rattle.listing.specs.Refusal.{lists-refusal};
+ghost use Rattle.paper.specs.Question.{asked};
 ghost use Rattle.paper.specs.Refusal.{counts-in-range, refusalOf};
 use super::question::Question;
-use block::judged::judged;
 use block::line::Plan;
 use block::refused::ACCEPTED;
 use block::refused::NO_FORM;
-use block::situation::Situation;
+use judging::judged;
 use listing::lists_refusal;
 use records::form::wide;
 use records::lists::Events;
@@ -35,28 +35,15 @@ fn body_refusal(plan: Plan, events: Events, readings: Readings, length: u8) -> u
     lists_refusal(plan, &listed[..n], &read[..m], length)
 }
 
-// The refusal of the question that these make.
-pub(crate) fn parts_refusal(
-    plan: Plan,
-    situation: Situation,
-    events: Events,
-    readings: Readings,
-    length: u8,
-) -> u8
-    ensures { λ r. ⌜ r ≡ refusalOf (record { plan = plan; situation = situation; events = events; readings = readings; length = length }) ⌝ }
+pub fn refusal_of(q: Question) -> u8
+    ensures { λ r. ⌜ r ≡ refusalOf (asked q) ⌝ }
 {
-    if !counts_in_range(events.count, readings.count) {
+    if !counts_in_range(q.events.count, q.readings.count) {
         return NO_FORM;
     }
-    let refusal = judged(plan, situation);
+    let refusal = judged(q.plan, q.situation);
     if refusal != ACCEPTED {
         return refusal;
     }
-    body_refusal(plan, events, readings, length)
-}
-
-pub fn refusal_of(q: Question) -> u8
-    ensures { λ r. ⌜ r ≡ refusalOf q ⌝ }
-{
-    parts_refusal(q.plan, q.situation, q.events, q.readings, q.length)
+    body_refusal(q.plan, q.events, q.readings, q.length)
 }

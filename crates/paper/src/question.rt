@@ -1,6 +1,6 @@
 // A question, as values.
 use block::line::Plan;
-use block::situation::Situation;
+use packed::situation::Situation;
 use records::lists::Events;
 use records::lists::Readings;
 

@@ -3,18 +3,20 @@ ghost use mathlib.Core.Path.{_≡_};
 ghost use mathlib.Core.List.{[], _∷_, _++_};
 ghost use Prim.Native.Nat.{_+_, _≤_};
 ghost use lib.ListN.{length};
+ghost use Rattle.packed.specs.Packed.{unpacked};
 ghost use Rattle.records.specs.Plan.{plan-written};
 ghost use Rattle.records.specs.Situation.{situation-written};
 ghost use Rattle.records.specs.Lists.{events-written, readings-written};
 ghost use Rattle.records.specs.Length.{length-written};
-ghost use Rattle.paper.specs.Question.{written};
+ghost use Rattle.paper.specs.Question.{asked, written};
 ghost use Rattle.paper.specs.Write.{laid, writtenOf, room-after};
 use super::judge::refusal_of;
 use super::question::Question;
 use block::line::Plan;
 use block::refused::ACCEPTED;
 use block::refused::SHORT_ROOM;
-use block::situation::Situation;
+use bodies::body_of;
+use packed::situation::Situation;
 use records::form::Mark;
 use records::form::wide;
 use records::length::LN;
@@ -24,7 +26,6 @@ use records::lists::RD;
 use records::lists::Readings;
 use records::plan::LB;
 use records::situation::SI;
-use records::situation::situation_bytes;
 
 // How many bytes were written, or the refusal and 0.
 pub struct Written {
@@ -62,12 +63,12 @@ fn put_plan(plan: Plan, room: &mut [u8]) -> usize
 }
 
 fn put_situation(x: Situation, room: &mut [u8]) -> usize
-    requires { ⌜ length (situation-written x) ≤ length (now room) ⌝ }
-    ensures { λ r. ⌜ r ≡ length (situation-written x) ⌝ }
-    ensures { λ _. ⌜ now (room .exit) ≡ laid (situation-written x) (now (room .entry)) ⌝ }
+    requires { ⌜ length (situation-written (unpacked x)) ≤ length (now room) ⌝ }
+    ensures { λ r. ⌜ r ≡ length (situation-written (unpacked x)) ⌝ }
+    ensures { λ _. ⌜ now (room .exit) ≡ laid (situation-written (unpacked x)) (now (room .entry)) ⌝ }
 {
     let head = letters(SI);
-    let body = situation_bytes(x);
+    let body = body_of(x);
     put(&head, &body, room)
 }
 
@@ -106,9 +107,9 @@ fn put_length(n: u8, room: &mut [u8]) -> usize
 }
 
 fn put_question(q: Question, room: &mut [u8]) -> usize
-    requires { ⌜ (q .events .count ≤ 12) × (q .readings .count ≤ 6) × (length (written q) ≤ length (now room)) ⌝ }
-    ensures { λ r. ⌜ r ≡ length (written q) ⌝ }
-    ensures { λ _. ⌜ now (room .exit) ≡ laid (written q) (now (room .entry)) ⌝ }
+    requires { ⌜ (q .events .count ≤ 12) × (q .readings .count ≤ 6) × (length (written (asked q)) ≤ length (now room)) ⌝ }
+    ensures { λ r. ⌜ r ≡ length (written (asked q)) ⌝ }
+    ensures { λ _. ⌜ now (room .exit) ≡ laid (written (asked q)) (now (room .entry)) ⌝ }
 {
     let si = put_plan(q.plan, room);
     let ev = si + put_situation(q.situation, &mut room[si..]);
@@ -119,8 +120,8 @@ fn put_question(q: Question, room: &mut [u8]) -> usize
 
 // An accepted question is written, and its length returned; any other gets its refusal, and the room keeps its values.
 pub fn write_question(q: Question, room: &mut [u8]) -> Written
-    ensures { λ r. ⌜ r ≡ writtenOf q (now (room .entry)) ⌝ }
-    ensures { λ _. ⌜ now (room .exit) ≡ room-after q (now (room .entry)) ⌝ }
+    ensures { λ r. ⌜ r ≡ writtenOf (asked q) (now (room .entry)) ⌝ }
+    ensures { λ _. ⌜ now (room .exit) ≡ room-after (asked q) (now (room .entry)) ⌝ }
 {
     let refusal = refusal_of(q);
     if refusal != ACCEPTED {

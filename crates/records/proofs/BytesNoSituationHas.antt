@@ -16,7 +16,6 @@ use Rattle.sections.proofs.SetLaws.{nothing-over}
 use Rattle.sections.proofs.Tests.{and-at, holds-is}
 use Rattle.block.specs.Sound.{sound}
 use Rattle.block.specs.declared.line.Plan.{Plan}
-use Rattle.block.specs.declared.line.Direction.the-variants.{TowardsA, TowardsB}
 use Rattle.block.specs.declared.situation.Situation.{Situation}
 use Rattle.records.proofs.SoundParts.{sound-sets}
 use Rattle.records.specs.Situation.{codes-in-range, no-situation, situation-of, sections-of}

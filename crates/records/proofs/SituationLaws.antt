@@ -9,15 +9,11 @@ use lib.ListN.{length, take, drop, getD, length-append, length-drop, drop-of-len
 use lib.Seq.{take-at, drop-drop, length-take-le, getD-take, getD-drop}
 use lib.Dec.{T, leb}
 use Rattle.block.specs.Line.{isPlan}
-use Rattle.block.specs.Sound as block
 use Rattle.block.specs.Sound.{sound}
 use Rattle.block.specs.declared.line.Plan.{Plan}
-use Rattle.block.specs.declared.line.Direction.the-variants.{TowardsA, TowardsB}
-use Rattle.block.specs.declared.situation.Station.{Station}
 use Rattle.block.specs.declared.situation.Situation.{Situation}
 use Rattle.records.specs.Form.{stands, Bytes}
-use Rattle.records.specs.Situation.{SI, situation-bytes, situation-written, codes-in-range, decoded, situation-of, situation-read}
-use Rattle.records.specs.declared.situation.SituationRead.{SituationRead}
+use Rattle.records.specs.Situation.{SI, situation-bytes, situation-written, codes-in-range, decoded, situation-of, SituationRead, situation-read}
 use Rattle.records.proofs.Forms.{both, stands-long}
 use Rattle.records.proofs.Front.{bytes-from, front, mark-stands, marked-front, taken-is-there, fixed-front}
 use Rattle.records.proofs.SoundParts.{Encodable, encodable}

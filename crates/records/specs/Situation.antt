@@ -17,8 +17,6 @@ use Rattle.block.specs.declared.situation.Station.{Station}
 use Rattle.block.specs.declared.situation.Situation.{Situation}
 use Rattle.records.specs.Form.{marked, stands}
 use Rattle.records.specs.declared.form.Mark.{Mark}
-use Rattle.records.specs.declared.situation.StationCodes.{StationCodes}
-use Rattle.records.specs.declared.situation.SituationRead.{SituationRead}
 
 abbrev pub SI : Mark
 SI = record { first = 83; second = 73 }
@@ -79,6 +77,16 @@ route-of code = record { normal = eqb code 1; special = eqb code 2 }
 
 abbrev pub pending-of : ℕ → Pending
 pending-of code = record { own = eqb code 1; other = eqb code 2 }
+
+-- the codes of a station, and its bits of BILC, BSLG and reminder
+pub record StationCodes : Type 0 where
+  pub orientation : ℕ
+  pub annulment : ℕ
+  pub exit : ℕ
+  pub entry : ℕ
+  pub bilc : Bool
+  pub bslg : Bool
+  pub reminder : Bool
 
 abbrev pub station-of : StationCodes → Station
 station-of c = record {
@@ -148,6 +156,10 @@ no-situation = record {
 
 unfoldable pub situation-of : List ℕ → Situation
 situation-of body = if eqb (length body) 19 and codes-in-range body then decoded body else no-situation
+
+pub record SituationRead : Type 0 where
+  pub used : ℕ
+  pub situation : Situation
 
 unfoldable pub situation-read : List ℕ → SituationRead
 situation-read s =

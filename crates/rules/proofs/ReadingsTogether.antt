@@ -12,6 +12,7 @@ use Rattle.sections.specs.Words.{_and_, if_then_else_}
 use Rattle.sections.specs.Sections.{_∈_}
 use Rattle.sections.proofs.SetsOfSets.{in-both}
 use Rattle.sections.proofs.Tests.{and-true}
+use Rattle.block.specs.Line.{station-named}
 use Rattle.block.specs.Situation.{line-free, station as Block·station}
 use Rattle.block.specs.Codes.{orientation-code, annulment-code, route-code}
 use Rattle.block.specs.declared.line.Plan.{Plan}
@@ -21,7 +22,7 @@ use Rattle.block.specs.declared.situation.Situation.{Situation}
 use Rattle.packed.specs.Packed.{station, unpacked}
 use Rattle.packed.specs.declared.situation.Situation.{Situation as Packed}
 use Rattle.signals.specs.Aspects.{aspect}
-use Rattle.signals.specs.Readings.{station-named, value-read, reading-holds}
+use Rattle.signals.specs.Readings.{value-read, reading-holds}
 use Rattle.rules.specs.RulesOf.{all-hold}
 use Rattle.rules.specs.Wanted.{anything, with-own, with-other, with-marks, with-line, with-aspect, with-reading, with-readings, wanted-of, where-orientation, where-annulment, where-exit, where-line, line-read, as-wanted, aspect-holds, aspects-hold}
 use Rattle.rules.specs.declared.wanted.Wanted.{Wanted}

@@ -4,6 +4,8 @@ use native.Mathlib.Omega.{arith}
 use borrow.Author.Needs.{needs}
 use Prim.Native.Nat.{ℕ, _+_, _≤_}
 use lib.ListN.{length, length-append}
+use Rattle.packed.specs.Packed.{unpacked}
+use Rattle.paper.specs.Question.{asked}
 use Rattle.paper.specs.Write.{laid}
 use Rattle.paper.proofs.Laid.{onto, written-length, regrouped}
 use Rattle.records.specs.Plan.{plan-written}
@@ -13,8 +15,8 @@ use Rattle.records.specs.Length.{length-written}
 use Rattle.paper.proofs.write.put_question.Statement.{statement}
 use Rattle.paper.proofs.write.put_question.Tie as tie
 
-fits : (c : tie.Start) → length (plan-written (c .args .q .plan)) + (length (situation-written (c .args .q .situation)) + (length (events-written (c .args .q .events)) + (length (readings-written (c .args .q .readings)) + length (length-written (c .args .q .length))))) ≤ length (c .args .room .now)
-fits c = omega (arith, written-length (c .args .q))
+fits : (c : tie.Start) → length (plan-written (c .args .q .plan)) + (length (situation-written (unpacked (c .args .q .situation))) + (length (events-written (c .args .q .events)) + (length (readings-written (c .args .q .readings)) + length (length-written (c .args .q .length))))) ≤ length (c .args .room .now)
+fits c = omega (arith, written-length (asked (c .args .q)))
 
 put-plan-requires : tie.Need-put-plan-requires
 put-plan-requires c κs = omega (arith, fits (c .before .before))
@@ -69,7 +71,7 @@ add-result c = omega (arith, fits (c .before .before .before .before .before .be
 
 returns : tie.Need-returns
 returns c =
-    let q = c .before .before .before .before .before .before .before .before .before .before .before .before .before .before .before .before .before .before .before .before .before .args .q in
+    let q = asked (c .before .before .before .before .before .before .before .before .before .before .before .before .before .before .before .before .before .before .before .before .before .args .q) in
     let room = c .before .before .before .before .before .before .before .before .before .before .before .before .before .before .before .before .before .before .before .before .before .args .room .now in
     let f₁ = plan-written (q .plan) in
     let f₂ = situation-written (q .situation) in
