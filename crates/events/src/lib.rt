@@ -1,6 +1,6 @@
 // Orders and happenings: an event, as its two bytes, on a situation that is kept as A sees it.
 ghost use mathlib.Core.Path.{_≡_};
-ghost use Rattle.packed.specs.Packed.{unpacked};
+ghost use Rattle.packed.specs.Packed.{of-words, unpacked};
 ghost use Rattle.events.specs.Apply.{known, of-signal, of-section, of-link, argument-right, own-refusal, reached, stepped, applied, outcome};
 use block::line::Plan;
 use block::line::direction_of;
@@ -57,10 +57,11 @@ pub fn argument_right(plan: Plan, code: u8, arg: u8) -> bool
 }
 
 // The event's own refusal, of a code that is known and an argument that is right. What a section, a signal or the link is refused for is
-// the same as either station sees it.
-pub fn own_refusal(plan: Plan, x: Situation, code: u8, arg: u8) -> u8
-    ensures { λ r. ⌜ r ≡ own-refusal plan (unpacked x) code arg ⌝ }
+// the same as either station sees it. The situation comes word by word, since as one value it would be copied for every event that is tried.
+pub fn own_refusal(plan: Plan, line: u64, own: u64, other: u64, code: u8, arg: u8) -> u8
+    ensures { λ r. ⌜ r ≡ own-refusal plan (unpacked (of-words line own other)) code arg ⌝ }
 {
+    let x = Situation { line, own, other };
     let s = station_named(arg);
     let seen = x.seen_from(s);
     match code {
@@ -103,9 +104,10 @@ fn occupied_at(plan: Plan, x: Situation, arg: u8) -> Situation
 }
 
 // Where an accepted event leads. AFBLI, AFBLE, a section occupied and link lost clear pending by themselves.
-pub fn next(plan: Plan, x: Situation, code: u8, arg: u8) -> Situation
-    ensures { λ r. ⌜ unpacked r ≡ reached plan (unpacked x) code arg ⌝ }
+pub fn next(plan: Plan, line: u64, own: u64, other: u64, code: u8, arg: u8) -> Situation
+    ensures { λ r. ⌜ unpacked r ≡ reached plan (unpacked (of-words line own other)) code arg ⌝ }
 {
+    let x = Situation { line, own, other };
     let s = station_named(arg);
     let seen = x.seen_from(s);
     match code {
@@ -155,7 +157,7 @@ fn refusal(plan: Plan, x: Situation, code: u8, arg: u8) -> u8
     if !argument_right(plan, code, arg) {
         return WRONG_ARGUMENT;
     }
-    own_refusal(plan, x, code, arg)
+    own_refusal(plan, x.line, x.own, x.other, code, arg)
 }
 
 // A plan and a situation that are judged already.
@@ -166,7 +168,7 @@ fn step(plan: Plan, x: Situation, code: u8, arg: u8) -> Applied
     if refusal != 0 {
         return Applied { refusal, next: x };
     }
-    let next = next(plan, x, code, arg);
+    let next = next(plan, x.line, x.own, x.other, code, arg);
     Applied { refusal: 0, next }
 }
 

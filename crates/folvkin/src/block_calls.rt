@@ -20,7 +20,8 @@ use judging::judged;
 use packed::situation::Situation;
 use sections::one_down;
 use signals::lights::Lights;
-use signals::lights::lit;
+use signals::lights::green;
+use signals::lights::not_red;
 use signals::lights::shown;
 use signals::readings::reading;
 
@@ -117,8 +118,18 @@ fn show(plan: Plan, x: Situation, room: &mut [u8])
     ensures { λ _. ⌜ now (room .exit) ≡ first-aspects plan (unpacked x) (plan .sections + plan .sections) ++ drop (plan .sections + plan .sections) (now (room .entry)) ⌝ }
 {
     let n = plan.sections;
-    let to_b = lit(plan, x, Direction::TowardsB);
-    let to_a = lit(plan, x, Direction::TowardsA);
+    let open = not_red(plan, x, Direction::TowardsB);
+    let green_b = green(plan, x, Direction::TowardsB, open);
+    let to_b = Lights {
+        open,
+        green: green_b,
+    };
+    let open = not_red(plan, x, Direction::TowardsA);
+    let green_a = green(plan, x, Direction::TowardsA, open);
+    let to_a = Lights {
+        open,
+        green: green_a,
+    };
     show_direction(to_b, n, room);
     let at = n as usize;
     show_direction(to_a, n, &mut room[at..]);

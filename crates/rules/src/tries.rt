@@ -18,7 +18,7 @@ pub fn refusal_at(plan: Plan, x: Situation, events: &[u8], place: usize) -> u8
     ensures { λ r. ⌜ r ≡ tried plan (now (events .entry)) (unpacked x) place .refusal ⌝ }
 {
     let at = 2 * (place - 1);
-    own_refusal(plan, x, events[at], events[at + 1])
+    own_refusal(plan, x.line, x.own, x.other, events[at], events[at + 1])
 }
 
 // Where the event at a place leads, if it is accepted.
@@ -28,5 +28,5 @@ pub fn reached_at(plan: Plan, x: Situation, events: &[u8], place: usize) -> Situ
     ensures { λ r. ⌜ unpacked r ≡ tried plan (now (events .entry)) (unpacked x) place .next ⌝ }
 {
     let at = 2 * (place - 1);
-    next(plan, x, events[at], events[at + 1])
+    next(plan, x.line, x.own, x.other, events[at], events[at + 1])
 }

@@ -95,7 +95,7 @@ fn exit_lit(plan: Plan, x: Situation, d: Direction) -> u64
 }
 
 // The signals that are not red: of the first section the exit signal, of the others the block signals.
-fn not_red(plan: Plan, x: Situation, d: Direction) -> u64
+pub fn not_red(plan: Plan, x: Situation, d: Direction) -> u64
     requires { ⌜ isPlan plan ≡ true ⌝ }
     ensures { λ r. ⌜ those plan (not-red plan (unpacked x) d) r ⌝ }
 {
@@ -142,18 +142,13 @@ fn next_not_red(plan: Plan, x: Situation, d: Direction, m: u64) -> u64
     either(minus(next, last), entered)
 }
 
-// A signal that is not red is yellow if the next one is red and green otherwise.
-pub fn lit(plan: Plan, x: Situation, d: Direction) -> Lights
-    requires { ⌜ isPlan plan ≡ true ⌝ }
-    ensures { λ r. ⌜ those plan (not-red plan (unpacked x) d) (r .open) ⌝ }
-    ensures { λ r. ⌜ those plan (is-green plan (unpacked x) d) (r .green) ⌝ }
+// The green signals, m being those that are not red: a signal that is not red is yellow if the next one is red and green otherwise.
+pub fn green(plan: Plan, x: Situation, d: Direction, m: u64) -> u64
+    requires { ⌜ (isPlan plan ≡ true) × those plan (not-red plan (unpacked x) d) m ⌝ }
+    ensures { λ r. ⌜ those plan (is-green plan (unpacked x) d) r ⌝ }
 {
-    let open = not_red(plan, x, d);
-    let next = next_not_red(plan, x, d, open);
-    Lights {
-        open,
-        green: both(open, next),
-    }
+    let next = next_not_red(plan, x, d, m);
+    both(m, next)
 }
 
 fn flag(v: bool) -> u8
