@@ -3,13 +3,13 @@ use Prim.Native.Nat.{ℕ, _≤_, _<_}
 use mathlib.Core.Path.{_≡_}
 use native.Mathlib.Omega.{arith}
 use lib.Dec.{T, leb, ltb, leb→le}
-use Rattle.sections.specs.Words.{_and_, if_then_else_}
-use Rattle.sections.proofs.Tests.{and-at, if-case}
+use Rattle.words.specs.Words.{_and_, if_then_else_}
+use Rattle.words.proofs.Tests.{and-at, if-case}
 use Rattle.block.specs.Line.{isPlan}
 use Rattle.block.specs.Judged.{judged}
 use Rattle.block.specs.Sound.{sound}
 use Rattle.block.specs.declared.line.Plan.{Plan}
-use Rattle.block.specs.declared.situation.Situation.{Situation}
+use Rattle.block.specs.Situation.{Kept}
 
 -- a set has bits for all sections of a plan
 pub plan-short : (p : Plan) → T (isPlan p) → p .sections < 49
@@ -21,11 +21,11 @@ plan-short p t =
     omega arith
 
 -- what is judged 0 is a plan, and a situation sound in it
-pub judged-plan : (p : Plan) (x : Situation) → judged p x ≡ 0 → T (isPlan p)
+pub judged-plan : (p : Plan) (x : Kept) → judged p x ≡ 0 → T (isPlan p)
 judged-plan p x =
     if-case (λ (n : ℕ). n ≡ 0 → T (isPlan p)) (isPlan p) (if sound p x then 0 else 2) 1 (λ t e. t) (λ t e. absurd (omega (arith, e)))
 
-pub judged-sound : (p : Plan) (x : Situation) → judged p x ≡ 0 → T (sound p x)
+pub judged-sound : (p : Plan) (x : Kept) → judged p x ≡ 0 → T (sound p x)
 judged-sound p x =
     if-case (λ (n : ℕ). n ≡ 0 → T (sound p x)) (isPlan p) (if sound p x then 0 else 2) 1
     (λ t. if-case (λ (n : ℕ). n ≡ 0 → T (sound p x)) (sound p x) 0 2 (λ s e. s) (λ u e. absurd (omega (arith, e))))

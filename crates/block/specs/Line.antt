@@ -2,7 +2,7 @@
 use Prim.Native.Nat.{ℕ, _+_, _-_}
 use mathlib.Core.Bool.{Bool, true, false, not}
 use lib.Dec.{eqb, leb, ltb}
-use Rattle.sections.specs.Words.{_and_, if_then_else_}
+use Rattle.words.specs.Words.{_and_, if_then_else_}
 use Rattle.block.specs.declared.line.Plan.{Plan}
 use Rattle.block.specs.declared.line.Name.{Name}
 use Rattle.block.specs.declared.line.Name.the-variants.{StationA, StationB}

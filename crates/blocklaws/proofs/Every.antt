@@ -2,11 +2,10 @@
 use Prim.Native.Nat.{ℕ, zero, suc}
 use mathlib.Core.Bool.{Bool, true, false, not}
 use lib.Dec.{T}
-use Rattle.sections.specs.Words.{_and_, _or_}
-use Rattle.sections.proofs.Tests.{and-at}
+use Rattle.words.specs.Words.{_and_, _or_}
+use Rattle.words.proofs.Tests.{and-at}
 use Rattle.block.specs.Sound.{stationSound, link-up-agrees, link-down-apart, pending-sound, stationsSound}
-use Rattle.block.specs.declared.situation.Station.{Station}
-use Rattle.block.specs.declared.situation.Situation.{Situation}
+use Rattle.block.specs.Situation.{Station, Situation}
 
 -- the test k where v holds; k waits, so that nothing is computed where v fails
 abbrev pub given : Bool → (Unit {0} → Bool) → Bool
@@ -95,7 +94,7 @@ module _ (t : Station) where
       ok
 
 abbrev pub situation : Situation → Station → Station → Bool → Bool → Bool → Situation
-situation x own other link asking asked = record { link = link; own = own; other = other; pending = record { own = asking; other = asked }; occupied = x .occupied; heldb = x .heldb; helda = x .helda }
+situation x own other link asking asked = record { traffic = record { link = link; own = own; other = other; pending = record { own = asking; other = asked }; track = x .traffic .track }; signals = x .signals }
 
 -- p at every sound situation with the sets and the other fields of x
 abbrev pub atLinks : Situation → (Situation → Bool) → Station → Station → Test 3
@@ -104,15 +103,15 @@ atLinks x p own other link asking asked =
     given (link-up-agrees y) (λ u. given (link-down-apart y) (λ v. given (pending-sound y) (λ w. p y)))
 
 abbrev pub atOwn : Situation → (Situation → Bool) → Station → Bool
-atOwn x p own = everyStation (x .other) (λ other. every 3 (atLinks x p own other))
+atOwn x p own = everyStation (x .traffic .other) (λ other. every 3 (atLinks x p own other))
 
 abbrev pub everywhere : Situation → (Situation → Bool) → Bool
-everywhere x p = everyStation (x .own) (atOwn x p)
+everywhere x p = everyStation (x .traffic .own) (atOwn x p)
 
 pub everywhere-at : (p : Situation → Bool) (x : Situation) → T (everywhere x p) → T (stationsSound x) → T (p x)
 everywhere-at p x h ok =
-    let a : Bool = stationSound (x .own) in
-    let b : Bool = stationSound (x .other) in
+    let a : Bool = stationSound (x .traffic .own) in
+    let b : Bool = stationSound (x .traffic .other) in
     let u : Bool = link-up-agrees x in
     let d : Bool = link-down-apart x in
     let q : Bool = pending-sound x in
@@ -123,9 +122,9 @@ everywhere-at p x h ok =
     given-at q (λ w. p x)
     (given-at d (λ v. given q (λ w. p x))
     (given-at u (λ u′. given d (λ v. given q (λ w. p x)))
-    (every-at 3 (atLinks x p (x .own) (x .other))
-    (everyStation-at (x .other) (λ t. every 3 (atLinks x p (x .own) t)) (everyStation-at (x .own) (atOwn x p) h (s₄ .0)) (s₄ .1))
-    (x .link) (x .pending .own) (x .pending .other))
+    (every-at 3 (atLinks x p (x .traffic .own) (x .traffic .other))
+    (everyStation-at (x .traffic .other) (λ t. every 3 (atLinks x p (x .traffic .own) t)) (everyStation-at (x .traffic .own) (atOwn x p) h (s₄ .0)) (s₄ .1))
+    (x .traffic .link) (x .traffic .pending .own) (x .traffic .pending .other))
     (s₃ .1))
     (s₂ .1))
     (s₁ .1)

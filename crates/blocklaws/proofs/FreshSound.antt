@@ -2,21 +2,21 @@
 use mathlib.Core.Bool.{not}
 use mathlib.Core.Path.{sym, subst}
 use lib.Dec.{T}
-use Rattle.sections.specs.Words.{_and_}
-use Rattle.sections.specs.Sections.{none, _∈_, sections-up-to}
-use Rattle.sections.proofs.Tests.{and-of}
+use Rattle.words.specs.Words.{_and_}
+use Rattle.sections.specs.Sections.{none, _belongs-to_, sections-up-to}
+use Rattle.words.proofs.Tests.{and-of}
 use Rattle.sections.proofs.SetLaws.{none-has, none-up-to}
 use Rattle.block.specs.Line.{first-section, entrance}
 use Rattle.block.specs.Situation.{fresh}
-use Rattle.block.specs.Sound.{held-sound, sound}
+use Rattle.block.specs.Sound.{held-sound}
 use Rattle.block.specs.declared.line.Plan.{Plan}
 use Rattle.block.specs.declared.line.Direction.{Direction}
 use Rattle.block.specs.declared.line.Direction.the-variants.{TowardsA, TowardsB}
 use Rattle.blocklaws.specs.Laws.{FreshSound}
 
-none-held : (q : Plan) (d : Direction) → T (sections-up-to (q .sections) none and not (first-section q (entrance d) ∈ none))
+none-held : (q : Plan) (d : Direction) → T (sections-up-to (q .sections) none and not (first-section q (entrance d) belongs-to none))
 none-held q d =
-    and-of (sections-up-to (q .sections) none) (not (first-section q (entrance d) ∈ none)) (none-up-to (q .sections))
+    and-of (sections-up-to (q .sections) none) (not (first-section q (entrance d) belongs-to none)) (none-up-to (q .sections))
     (subst (λ v. T (not v)) (sym (none-has (first-section q (entrance d)))) tt)
 
 pub fresh-sound : FreshSound

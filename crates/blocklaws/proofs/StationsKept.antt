@@ -1,121 +1,80 @@
--- "Every accepted event leads from a sound situation to a sound one": the stations, the link and the pending SOBB. Each line is a test
--- that is computed at every sound situation. Assumes nothing.
+-- "Every accepted event leads from a sound situation to a sound one": the stations, the link and the pending SOBB. One test, computed for every
+-- line of the table at every sound situation. Assumes nothing.
 use Prim.Native.Nat.{ℕ}
-use mathlib.Core.Bool.{Bool, true, false}
-use lib.Dec.{T}
-use Rattle.block.specs.Line.{is-first}
-use Rattle.block.specs.Expected.{expected}
+use mathlib.Core.Bool.{Bool, true, false, not}
+use lib.Dec.{T, T-not, eqb}
+use Rattle.block.specs.Checks.{Row, refusal, effect}
+use Rattle.block.specs.Pending.{pending-settled}
+use Rattle.block.specs.Place.{Place}
+use Rattle.block.specs.Situation.{Situation, withOwn, withReminder, turnedRound}
 use Rattle.block.specs.Sound.{stationsSound}
-use Rattle.block.specs.Situation.{line-free, turnedRound}
-use Rattle.block.specs.Events as rows
-use Rattle.block.specs.declared.line.Direction.{Direction}
-use Rattle.block.specs.declared.line.Direction.the-variants.{TowardsA, TowardsB}
-use Rattle.block.specs.declared.situation.Situation.{Situation}
-use Rattle.events.specs.Rows.{row}
-use Rattle.events.specs.Event.{Place, Event, Sobb, Cobb, Afbli, Afble, Dafbl, Bilc, Dilc, Bslg, BslgOff, Bslb, BslbOff, Reminder, ReminderOff, ExitNormal, ExitSpecial, ExitReleased, Entry, EntryReleased, Occupied, Freed, LinkLost, LinkRestored, Unknown}
-use Rattle.blocklaws.proofs.Every.{everywhere-at}
-use Rattle.blocklaws.proofs.ByCode.{code-of, led-to}
-use Rattle.blocklaws.proofs.RowLaw.{accepted, led, free-is, keeps, holds, holds-noted, holds-occupied}
+use Rattle.block.specs.Table.{Kind, table, section}
+use Rattle.blocklaws.proofs.Every.{Test, every, every-at, everywhere, everywhere-at}
+use Rattle.blocklaws.proofs.InTable.{All, each-all, passes, by-test}
 
-abbrev stays-sound : Situation → Situation → Bool
-stays-sound x y = stationsSound y
+-- where a kind of event leads, at a place
+abbrev pub next : Kind → Place → Situation → Situation
+next e at x = pending-settled (e .clears-pending) x (effect (e .row at x))
+
+abbrev pub accepted : Row → Type 0
+accepted r = T (eqb (refusal r) 0)
+
+-- a test k where v fails; k waits, so that nothing is computed where v holds
+abbrev otherwise : Bool → (Unit {0} → Bool) → Bool
+otherwise true k = true
+otherwise false k = k tt
+
+otherwise-at : (v : Bool) (k : Unit {0} → Bool) → T (otherwise v k) → (T (k tt) → ⊥) → T v
+otherwise-at true k t n = tt
+otherwise-at false k t n = n t
+
+-- ---- what rows read that soundness does not speak of: what is told of the line, and own's reminder
+abbrev told : Place → Bool → Bool → Bool → Place
+told at clear first expected = record { plan = at .plan; own = at .own; section = at .section; direction = at .direction; first = first; expected = expected; track-clear = clear }
+
+abbrev reminded : Situation → Bool → Situation
+reminded x m = withOwn (withReminder m (x .traffic .own)) x
+
+-- the row refuses, whatever it reads of those
+abbrev refuses : Kind → Place → Situation → Test 2
+refuses e at x clear m = not (eqb (refusal (e .row (told at clear (at .first) (at .expected)) (reminded x m))) 0)
+
+-- where the event leads is sound, or else the row refuses
+abbrev stays : Kind → Place → Situation → Bool
+stays e at x = otherwise (stationsSound (next e at x)) (λ u. every 2 (refuses e at x))
+
+-- the effect of an event of a section is computed for all that is told of the section
+abbrev choose : Bool → (Unit {0} → Bool) → (Unit {0} → Bool) → Bool
+choose true a b = a tt
+choose false a b = b tt
+
+abbrev tested : Place → Situation → Kind → Bool
+tested at x e = choose (eqb (e .argument) section) (λ u. every 3 (λ clear first expected. stays e (told at clear first expected) x)) (λ u. stays e at x)
+
+computed : (at : Place) (x : Situation) → T (everywhere x (λ y. passes (tested at y) table))
+computed at x = tt
+
+-- ---- the law
+stays-at : (e : Kind) (at : Place) (x : Situation) → T (stays e at x) → accepted (e .row at x) → T (stationsSound (next e at x))
+stays-at e at x t a =
+    otherwise-at (stationsSound (next e at x)) (λ u. every 2 (refuses e at x)) t
+    (λ r. T-not (eqb (refusal (e .row at x)) 0) (every-at 2 (refuses e at x) r (at .track-clear) (x .traffic .own .reminder)) a)
+
+choose-at : (v : Bool) (a b : Unit {0} → Bool) (P : Type 0) → (T (a tt) → P) → (T (b tt) → P) → T (choose v a b) → P
+choose-at true a b P f g t = f t
+choose-at false a b P f g t = g t
+
+tested-at : (e : Kind) (at : Place) (x : Situation) → T (tested at x e) → accepted (e .row at x) → T (stationsSound (next e at x))
+tested-at e at x t a =
+    choose-at (eqb (e .argument) section) (λ u. every 3 (λ clear first expected. stays e (told at clear first expected) x)) (λ u. stays e at x)
+    (T (stationsSound (next e at x)))
+    (λ h. stays-at e at x (every-at 3 (λ clear first expected. stays e (told at clear first expected) x) h (at .track-clear) (at .first) (at .expected)) a)
+    (λ h. stays-at e at x h a) t
+
+pub stations-kept : (at : Place) (x : Situation) → T (stationsSound x) → All (λ e. accepted (e .row at x) → T (stationsSound (next e at x))) table
+stations-kept at x s =
+    each-all (λ e. T (tested at x e)) (λ e. accepted (e .row at x) → T (stationsSound (next e at x))) (λ e t. tested-at e at x t) table
+    (by-test (tested at x) table (everywhere-at (λ y. passes (tested at y) table) x (computed at x) s))
 
 pub turned-sound : (x : Situation) → T (stationsSound x) → T (stationsSound (turnedRound x))
 turned-sound x = everywhere-at (λ y. stationsSound (turnedRound y)) x tt
-
-of-bslb : (d : Direction) (k : ℕ) (x : Situation) → T (stationsSound x) → T (stationsSound (led false (λ y. rows.bslb y d k) x))
-of-bslb TowardsA k x s = keeps stays-sound false (λ y. rows.bslb y TowardsA k) x tt s
-of-bslb TowardsB k x s = keeps stays-sound false (λ y. rows.bslb y TowardsB k) x tt s
-
-of-bslb-off : (d : Direction) (k : ℕ) (x : Situation) → T (stationsSound x) → T (stationsSound (led false (λ y. rows.bslb-off y d k) x))
-of-bslb-off TowardsA k x s = keeps stays-sound false (λ y. rows.bslb-off y TowardsA k) x tt s
-of-bslb-off TowardsB k x s = keeps stays-sound false (λ y. rows.bslb-off y TowardsB k) x tt s
-
--- what is to be shown of an event
-abbrev Kept : Event → Type 0
-Kept e = (at : Place) (x : Situation) → T (stationsSound x) → accepted (row e at x) → T (stationsSound (led-to at x (code-of e) e))
-
-of-sobb : Kept Sobb
-of-sobb at x s a = holds stays-sound false rows.sobb x tt s a
-
-of-cobb : Kept Cobb
-of-cobb at x s a = holds stays-sound false rows.cobb x tt s a
-
-of-afbli : Kept Afbli
-of-afbli at x s a = holds stays-sound true rows.afbli x tt s a
-
-of-afble : Kept Afble
-of-afble at x s a = holds-noted stays-sound true (λ free. rows.afble) x tt false s tt a
-
-of-dafbl : Kept Dafbl
-of-dafbl at x s a = holds stays-sound false rows.dafbl x tt s a
-
-of-bilc : Kept Bilc
-of-bilc at x s a = holds stays-sound false rows.bilc x tt s a
-
-of-dilc : Kept Dilc
-of-dilc at x s a = holds stays-sound false rows.dilc x tt s a
-
-of-bslg : Kept Bslg
-of-bslg at x s a = keeps stays-sound false rows.bslg x tt s
-
-of-bslg-off : Kept BslgOff
-of-bslg-off at x s a = keeps stays-sound false rows.bslg-off x tt s
-
-of-reminder : Kept Reminder
-of-reminder at x s a = keeps stays-sound false rows.reminder x tt s
-
-of-reminder-off : Kept ReminderOff
-of-reminder-off at x s a = keeps stays-sound false rows.reminder-off x tt s
-
-of-exit-normal : Kept ExitNormal
-of-exit-normal at x s a = holds-noted stays-sound false (λ free y. rows.exit-normal y free) x tt (line-free x) s (free-is x) a
-
-of-exit-special : Kept ExitSpecial
-of-exit-special at x s a = holds-noted stays-sound false (λ free y. rows.exit-special y free) x tt (line-free x) s (free-is x) a
-
-of-exit-released : Kept ExitReleased
-of-exit-released at x s a = holds stays-sound false rows.exit-released x tt s a
-
-of-entry : Kept Entry
-of-entry at x s a = keeps stays-sound false rows.entry x tt s
-
-of-entry-released : Kept EntryReleased
-of-entry-released at x s a = keeps stays-sound false rows.entry-released x tt s
-
-of-occupied : Kept Occupied
-of-occupied at x s a = holds-occupied stays-sound true (at .section) x tt (line-free x) (expected (at .plan) (at .own) x (at .section)) (is-first (at .plan) (at .own) (at .section)) s (free-is x)
-
-of-freed : Kept Freed
-of-freed at x s a = keeps stays-sound false (λ y. rows.freed y (at .section)) x tt s
-
-of-link-lost : Kept LinkLost
-of-link-lost at x s a = holds stays-sound true rows.link-lost x tt s a
-
-of-link-restored : Kept LinkRestored
-of-link-restored at x s a = holds stays-sound false rows.link-restored x tt s a
-
-pub stations-kept : (e : Event) → Kept e
-stations-kept Sobb = of-sobb
-stations-kept Cobb = of-cobb
-stations-kept Afbli = of-afbli
-stations-kept Afble = of-afble
-stations-kept Dafbl = of-dafbl
-stations-kept Bilc = of-bilc
-stations-kept Dilc = of-dilc
-stations-kept Bslg = of-bslg
-stations-kept BslgOff = of-bslg-off
-stations-kept Bslb = λ at x s a. of-bslb (at .direction) (at .section) x s
-stations-kept BslbOff = λ at x s a. of-bslb-off (at .direction) (at .section) x s
-stations-kept Reminder = of-reminder
-stations-kept ReminderOff = of-reminder-off
-stations-kept ExitNormal = of-exit-normal
-stations-kept ExitSpecial = of-exit-special
-stations-kept ExitReleased = of-exit-released
-stations-kept Entry = of-entry
-stations-kept EntryReleased = of-entry-released
-stations-kept Occupied = of-occupied
-stations-kept Freed = of-freed
-stations-kept LinkLost = of-link-lost
-stations-kept LinkRestored = of-link-restored
-stations-kept Unknown = λ at x s a. absurd a

@@ -1,20 +1,19 @@
 -- The words that the code makes of a body whose codes are in range say the situation that the body holds. Assumes nothing.
-use Prim.Native.Nat.{ℕ, zero, suc, _+_, _*_, _/_, _%_, _^_, _≤_}
+use Prim.Native.Nat.{ℕ, zero, suc, _+_, _*_, _/_, _%_, _^_, _≤_, _<_}
 use mathlib.Core.Path.{_≡_, refl, sym, ap, _∙_}
-use mathlib.Core.Bool.{true}
+use mathlib.Core.Bool.{Bool, true}
 use mathlib.Core.List.{List}
 use native.Mathlib.Omega.{arith}
 use borrow.Author.Tests.{leb-true}
 use lib.Dec.{eqb}
 use lib.ListN.{getD}
 use lib.Pow.{shr-shr}
-use Rattle.sections.specs.Sections.{_∈_}
-use Rattle.block.specs.declared.situation.Station.{Station}
-use Rattle.packed.specs.Packed.{station, sections-of, unpacked}
-use Rattle.records.specs.Situation as records
-use Rattle.records.specs.Situation.{codes-in-range, decoded, orientation-of, annulment-of, route-of}
+use Rattle.sections.specs.Sections.{_belongs-to_}
+use Rattle.sections.proofs.SetsOfSets.{low-bit}
+use Rattle.situation.specs.Packed.{unpacked}
+use Rattle.records.specs.Situation.{codes-in-range, decoded}
 use Rattle.records.proofs.SituationLaws.{codes-right}
-use Rattle.bodies.specs.Words.{two-bytes, line-word, bits-word, station-word, codes-A, codes-B, in-words}
+use Rattle.bodies.specs.Words.{bits-word, station-word, flags-word, codes-A, codes-B, in-words}
 use Rattle.bodies.specs.declared.StationCodes.{StationCodes}
 
 -- ---- a code below a number, and a flag: its bits, and then those of the number
@@ -30,17 +29,17 @@ two-is-half (suc zero) h = refl
 two-is-half (suc (suc zero)) h = refl
 two-is-half (suc (suc (suc n))) h = absurd (omega arith)
 
-code-one : (a m : ℕ) → a ≤ 2 → (0 ∈ (a + 4 * m)) ≡ eqb a 1
+code-one : (a m : ℕ) → a ≤ 2 → (0 belongs-to (a + 4 * m)) ≡ eqb a 1
 code-one a m h = let e : (a + 4 * m) / 2 ^ 0 % 2 ≡ a % 2 = omega arith in rw e (one-is-odd a h)
 
-code-two : (a m : ℕ) → a ≤ 2 → (1 ∈ (a + 4 * m)) ≡ eqb a 2
+code-two : (a m : ℕ) → a ≤ 2 → (1 belongs-to (a + 4 * m)) ≡ eqb a 2
 code-two a m h = let e : (a + 4 * m) / 2 ^ 1 % 2 ≡ a / 2 = omega arith in rw e (two-is-half a h)
 
-flag-one : (a m : ℕ) → a ≤ 1 → (0 ∈ (a + 2 * m)) ≡ eqb a 1
+flag-one : (a m : ℕ) → a ≤ 1 → (0 belongs-to (a + 2 * m)) ≡ eqb a 1
 flag-one a m h = let e : (a + 2 * m) / 2 ^ 0 % 2 ≡ a = omega arith in rw e
 
 -- the bits of a word from the j-th on are those of what is left of it there
-bit-from : (w j m : ℕ) → w / 2 ^ j ≡ m → (k : ℕ) → ((j + k) ∈ w) ≡ (k ∈ m)
+bit-from : (w j m : ℕ) → w / 2 ^ j ≡ m → (k : ℕ) → ((j + k) belongs-to w) ≡ (k belongs-to m)
 bit-from w j m e k = ap (λ (n : ℕ). eqb (n % 2) 1) (sym (shr-shr w j k) ∙ ap (λ (n : ℕ). n / 2 ^ k) e)
 
 past-code : (w j a m : ℕ) → a ≤ 2 → w / 2 ^ j ≡ a + 4 * m → w / 2 ^ (j + 2) ≡ m
@@ -60,24 +59,13 @@ pub record Small (c : StationCodes) : Type 0 where
   pub reminder : c .reminder ≤ 1
   pub asks : c .asks ≤ 1
 
-abbrev said : StationCodes → Station
-said c = record {
-  orientation = orientation-of (c .orientation);
-  annulment = annulment-of (c .annulment);
-  exit = route-of (c .exit);
-  entry = eqb (c .entry) 1;
-  bilc = eqb (c .bilc) 1;
-  bslg = eqb (c .bslg) 1;
-  reminder = eqb (c .reminder) 1;
-}
-
 module _ (c : StationCodes) (s : Small c) where
   abbrev word : ℕ
   word = station-word c
 
   -- what is left of the word from each code on
   abbrev asks⁺ : ℕ
-  asks⁺ = c .asks + 64 * two-bytes (c .low) (c .high)
+  asks⁺ = c .asks
 
   abbrev reminder⁺ : ℕ
   reminder⁺ = c .reminder + 2 * asks⁺
@@ -115,33 +103,67 @@ module _ (c : StationCodes) (s : Small c) where
   from-asks : word / 2 ^ 10 ≡ asks⁺
   from-asks = past-flag word 9 (c .reminder) asks⁺ (s .reminder) from-reminder
 
-  pub word-says : station word ≡ said c
-  word-says =
-      rw (
-        code-one (c .orientation) annulment⁺ (s .orientation),
-        code-two (c .orientation) annulment⁺ (s .orientation),
-        bit-from word 2 annulment⁺ from-annulment 0 ∙ code-one (c .annulment) exit⁺ (s .annulment),
-        bit-from word 2 annulment⁺ from-annulment 1 ∙ code-two (c .annulment) exit⁺ (s .annulment),
-        bit-from word 4 exit⁺ from-exit 0 ∙ code-one (c .exit) entry⁺ (s .exit),
-        bit-from word 4 exit⁺ from-exit 1 ∙ code-two (c .exit) entry⁺ (s .exit),
-        bit-from word 6 entry⁺ from-entry 0 ∙ flag-one (c .entry) (bits-word c) (s .entry),
-        bit-from word 7 (bits-word c) from-bilc 0 ∙ flag-one (c .bilc) bslg⁺ (s .bilc),
-        bit-from word 8 bslg⁺ from-bslg 0 ∙ flag-one (c .bslg) reminder⁺ (s .bslg),
-        bit-from word 9 reminder⁺ from-reminder 0 ∙ flag-one (c .reminder) asks⁺ (s .reminder),
-      )
+  abbrev At : ℕ → ℕ → ℕ → Type 0
+  At j code value = (j belongs-to word) ≡ eqb code value
 
-  pub word-asks : (10 ∈ word) ≡ eqb (c .asks) 1
-  word-asks = let e : asks⁺ % 2 ≡ c .asks = omega arith in rw (from-asks, e)
+  pub out : At 0 (c .orientation) 1
+  out = code-one (c .orientation) annulment⁺ (s .orientation)
 
-  pub word-holds : sections-of word ≡ records.sections-of (c .low) (c .high)
-  word-holds = sym (shr-shr word 10 5) ∙ omega (arith, from-asks)
+  pub inward : At 1 (c .orientation) 2
+  inward = code-two (c .orientation) annulment⁺ (s .orientation)
 
--- ---- the line's word
-line-up : (link low high : ℕ) → link ≤ 1 → (0 ∈ line-word link low high) ≡ eqb link 1
-line-up link low high h = let e : line-word link low high / 2 ^ 0 % 2 ≡ link = omega arith in rw e
+  pub afbli : At 2 (c .annulment) 1
+  afbli = bit-from word 2 annulment⁺ from-annulment 0 ∙ code-one (c .annulment) exit⁺ (s .annulment)
 
-line-occupied : (link low high : ℕ) → link ≤ 1 → sections-of (line-word link low high) ≡ records.sections-of low high
-line-occupied link low high h = omega arith
+  pub afble : At 3 (c .annulment) 2
+  afble = bit-from word 2 annulment⁺ from-annulment 1 ∙ code-two (c .annulment) exit⁺ (s .annulment)
+
+  pub normal : At 4 (c .exit) 1
+  normal = bit-from word 4 exit⁺ from-exit 0 ∙ code-one (c .exit) entry⁺ (s .exit)
+
+  pub special : At 5 (c .exit) 2
+  special = bit-from word 4 exit⁺ from-exit 1 ∙ code-two (c .exit) entry⁺ (s .exit)
+
+  pub entry : At 6 (c .entry) 1
+  entry = bit-from word 6 entry⁺ from-entry 0 ∙ flag-one (c .entry) (bits-word c) (s .entry)
+
+  pub bilc : At 7 (c .bilc) 1
+  bilc = bit-from word 7 (bits-word c) from-bilc 0 ∙ flag-one (c .bilc) bslg⁺ (s .bilc)
+
+  pub bslg : At 8 (c .bslg) 1
+  bslg = bit-from word 8 bslg⁺ from-bslg 0 ∙ flag-one (c .bslg) reminder⁺ (s .bslg)
+
+  pub reminder : At 9 (c .reminder) 1
+  reminder = bit-from word 9 reminder⁺ from-reminder 0 ∙ flag-one (c .reminder) asks⁺ (s .reminder)
+
+  pub asks : At 10 (c .asks) 1
+  asks = let e : asks⁺ % 2 ≡ c .asks = omega arith in rw (from-asks, e)
+
+  pub word-small : word < 65536
+  word-small = omega (arith, s .orientation, s .annulment, s .exit, s .entry, s .bilc, s .bslg, s .reminder, s .asks)
+
+-- ---- the three in one word
+module _ (a b l : ℕ) (low : a < 65536) (mid : b < 65536) where
+  abbrev whole : ℕ
+  whole = flags-word a b l
+
+  pub own-bit : (j : ℕ) → j < 16 → (j belongs-to whole) ≡ (j belongs-to a)
+  own-bit j h =
+      let e : whole % 2 ^ 16 ≡ a = omega arith in
+      ap (λ (n : ℕ). eqb n 1) (sym (low-bit whole 16 j h) ∙ ap (λ (n : ℕ). n / 2 ^ j % 2) e)
+
+  upper : whole / 2 ^ 16 ≡ b + 65536 * l
+  upper = omega arith
+
+  pub other-bit : (j : ℕ) → j < 16 → ((16 + j) belongs-to whole) ≡ (j belongs-to b)
+  other-bit j h =
+      let e : (b + 65536 * l) % 2 ^ 16 ≡ b = omega arith in
+      bit-from whole 16 (b + 65536 * l) upper j ∙ ap (λ (n : ℕ). eqb n 1) (sym (low-bit (b + 65536 * l) 16 j h) ∙ ap (λ (n : ℕ). n / 2 ^ j % 2) e)
+
+  pub link-bit : l ≤ 1 → (32 belongs-to whole) ≡ eqb l 1
+  link-bit h =
+      let e : (b + 65536 * l) / 2 ^ 16 % 2 ≡ l = omega arith in
+      bit-from whole 16 (b + 65536 * l) upper 16 ∙ ap (λ (n : ℕ). eqb n 1) e
 
 -- ---- the body
 module _ (t : List ℕ) (r : codes-in-range t ≡ true) where
@@ -173,19 +195,53 @@ module _ (t : List ℕ) (r : codes-in-range t ≡ true) where
         asks = omega (arith, leb-true (getD t 9 0) 2 (k .pending));
       }
 
+  abbrev own : ℕ
+  own = station-word (codes-A t)
+
+  abbrev other : ℕ
+  other = station-word (codes-B t)
+
+  low : own < 65536
+  low = word-small (codes-A t) small-A
+
+  mid : other < 65536
+  mid = word-small (codes-B t) small-B
+
+  of-own : (j : ℕ) → j < 16 → {v : Bool} → (j belongs-to own) ≡ v → (j belongs-to flags-word own other (getD t 0 0)) ≡ v
+  of-own j h e = own-bit own other (getD t 0 0) low mid j h ∙ e
+
+  of-other : (j : ℕ) → j < 16 → {v : Bool} → (j belongs-to other) ≡ v → ((16 + j) belongs-to flags-word own other (getD t 0 0)) ≡ v
+  of-other j h e = other-bit own other (getD t 0 0) low mid j h ∙ e
+
   pub in-words-say : unpacked (in-words t) ≡ decoded t
   unfolding in-words decoded
   in-words-say =
       let k = codes-right t r in
-      let link = leb-true _ _ (k .link) in
-      let pending = leb-true _ _ (k .pending) in
+      let pending = leb-true (getD t 9 0) 2 (k .pending) in
+      let a = codes-A t in
+      let b = codes-B t in
       rw (
-        line-up (getD t 0 0) (getD t 13 0) (getD t 14 0) link,
-        line-occupied (getD t 0 0) (getD t 13 0) (getD t 14 0) link,
-        word-says (codes-A t) small-A,
-        word-says (codes-B t) small-B,
-        word-asks (codes-A t) small-A ∙ one-is-odd (getD t 9 0) pending,
-        word-asks (codes-B t) small-B ∙ two-is-half (getD t 9 0) pending,
-        word-holds (codes-A t) small-A,
-        word-holds (codes-B t) small-B,
+        link-bit own other (getD t 0 0) low mid (leb-true (getD t 0 0) 1 (k .link)),
+        of-own 0 (omega arith) (out a small-A),
+        of-own 1 (omega arith) (inward a small-A),
+        of-own 2 (omega arith) (afbli a small-A),
+        of-own 3 (omega arith) (afble a small-A),
+        of-own 4 (omega arith) (normal a small-A),
+        of-own 5 (omega arith) (special a small-A),
+        of-own 6 (omega arith) (entry a small-A),
+        of-own 7 (omega arith) (bilc a small-A),
+        of-own 8 (omega arith) (bslg a small-A),
+        of-own 9 (omega arith) (reminder a small-A),
+        of-own 10 (omega arith) (asks a small-A ∙ one-is-odd (getD t 9 0) pending),
+        of-other 0 (omega arith) (out b small-B),
+        of-other 1 (omega arith) (inward b small-B),
+        of-other 2 (omega arith) (afbli b small-B),
+        of-other 3 (omega arith) (afble b small-B),
+        of-other 4 (omega arith) (normal b small-B),
+        of-other 5 (omega arith) (special b small-B),
+        of-other 6 (omega arith) (entry b small-B),
+        of-other 7 (omega arith) (bilc b small-B),
+        of-other 8 (omega arith) (bslg b small-B),
+        of-other 9 (omega arith) (reminder b small-B),
+        of-other 10 (omega arith) (asks b small-B ∙ two-is-half (getD t 9 0) pending),
       )

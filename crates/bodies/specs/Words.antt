@@ -2,22 +2,20 @@
 use Prim.Native.Nat.{ℕ, _+_, _*_, _/_, _%_}
 use mathlib.Core.List.{List}
 use lib.ListN.{getD}
-use Rattle.packed.specs.declared.situation.Situation.{Situation as Packed}
+use Rattle.records.specs.Situation.{sections-of}
+use Rattle.situation.specs.declared.Situation.{Situation as Packed}
 use Rattle.bodies.specs.declared.StationCodes.{StationCodes}
 
--- two bytes, low byte first
-abbrev pub two-bytes : ℕ → ℕ → ℕ
-two-bytes low high = low + 256 * high
-
-abbrev pub line-word : ℕ → ℕ → ℕ → ℕ
-line-word link low high = link + 65536 * two-bytes low high
-
--- a station's bits, and the signals held away from it
+-- a station's bits
 abbrev pub bits-word : StationCodes → ℕ
-bits-word c = c .bilc + 2 * (c .bslg + 2 * (c .reminder + 2 * (c .asks + 64 * two-bytes (c .low) (c .high))))
+bits-word c = c .bilc + 2 * (c .bslg + 2 * (c .reminder + 2 * c .asks))
 
 abbrev pub station-word : StationCodes → ℕ
 station-word c = c .orientation + 4 * (c .annulment + 4 * (c .exit + 4 * (c .entry + 2 * bits-word c)))
+
+-- own's flags, the other's from bit 16 on, the link's bit 32
+abbrev pub flags-word : ℕ → ℕ → ℕ → ℕ
+flags-word own other link = own + 65536 * (other + 65536 * link)
 
 module _ (t : List ℕ) where
   abbrev pub codes-A : StationCodes
@@ -30,8 +28,6 @@ module _ (t : List ℕ) where
     bslg = getD t 11 0 % 2;
     reminder = getD t 12 0 % 2;
     asks = getD t 9 0 % 2;
-    low = getD t 15 0;
-    high = getD t 16 0;
   }
 
   abbrev pub codes-B : StationCodes
@@ -44,13 +40,11 @@ module _ (t : List ℕ) where
     bslg = getD t 11 0 / 2;
     reminder = getD t 12 0 / 2;
     asks = getD t 9 0 / 2;
-    low = getD t 17 0;
-    high = getD t 18 0;
   }
 
   unfoldable pub in-words : Packed
   in-words = record {
-    line = line-word (getD t 0 0) (getD t 13 0) (getD t 14 0);
-    own = station-word codes-A;
-    other = station-word codes-B;
+    flags = flags-word (station-word codes-A) (station-word codes-B) (getD t 0 0);
+    occupied = sections-of (getD t 13 0) (getD t 14 0);
+    signals = record { heldb = sections-of (getD t 15 0) (getD t 16 0); helda = sections-of (getD t 17 0) (getD t 18 0) };
   }

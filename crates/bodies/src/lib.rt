@@ -1,28 +1,21 @@
-// The body of a record SI, 19 bytes, read into a packed situation and written from one.
+// The body of a record SI, 19 bytes, read into a situation and written from one.
 ghost use mathlib.Core.Path.{_≡_};
 ghost use Prim.Native.Nat.{_≤_};
 ghost use lib.ListN.{length};
-ghost use Rattle.packed.specs.Packed.{unpacked};
-ghost use Rattle.records.specs.Situation.{no-situation, situation-of, situation-bytes};
-ghost use Rattle.bodies.specs.Words.{line-word, bits-word, station-word, in-words};
+ghost use Rattle.situation.specs.Packed.{unpacked};
+ghost use Rattle.records.specs.Situation.{no-situation, sections-of, situation-of, situation-bytes};
+ghost use Rattle.bodies.specs.Words.{bits-word, station-word, flags-word, in-words};
+use block::codes::Pending;
 use block::line::Direction;
-use block::situation::Pending;
-use packed::marks::annulment;
-use packed::marks::asks;
-use packed::marks::bilc;
-use packed::marks::bslg;
-use packed::marks::entry;
-use packed::marks::exit_route;
-use packed::marks::orientation;
-use packed::marks::reminder;
-use packed::situation::Situation;
-use records::situation::bits;
-use records::situation::codes_in_range;
-use records::situation::first_byte;
-use records::situation::flag;
-use records::situation::second_byte;
+use records::si::bits;
+use records::si::codes_in_range;
+use records::si::first_byte;
+use records::si::second_byte;
+use situation::Signals;
+use situation::Situation;
+use words::flag;
 
-// The codes of a station, its bits of BILC, BSLG, reminder and a pending SOBB, and the two bytes of the signals held away from it.
+// The codes of a station, and its bits of BILC, BSLG, reminder and a pending SOBB.
 struct StationCodes {
     orientation: u8,
     annulment: u8,
@@ -32,34 +25,39 @@ struct StationCodes {
     bslg: u8,
     reminder: u8,
     asks: u8,
-    low: u8,
-    high: u8,
-}
-
-fn line_word(link: u8, low: u8, high: u8) -> u64
-    ensures { λ r. ⌜ r ≡ line-word link low high ⌝ }
-{
-    link as u64 + 65536 * (low as u64 + 256 * (high as u64))
 }
 
 fn bits_word(c: StationCodes) -> u64
     ensures { λ r. ⌜ r ≡ bits-word c ⌝ }
 {
-    let held = c.low as u64 + 256 * (c.high as u64);
-    c.bilc as u64 + 2 * (c.bslg as u64 + 2 * (c.reminder as u64 + 2 * (c.asks as u64 + 64 * held)))
+    c.bilc as u64 + 2 * (c.bslg as u64 + 2 * (c.reminder as u64 + 2 * (c.asks as u64)))
 }
 
 fn station_word(c: StationCodes) -> u64
-    ensures { λ r. ⌜ r ≡ station-word c ⌝ }
+    ensures { λ r. ⌜ (r ≡ station-word c) × (r ≤ 1048575) ⌝ }
 {
     let bits = bits_word(c);
     c.orientation as u64
         + 4 * (c.annulment as u64 + 4 * (c.exit as u64 + 4 * (c.entry as u64 + 2 * bits)))
 }
 
-fn decoded(body: &[u8]) -> Situation
+// A field of two bytes.
+fn sections_of(low: u8, high: u8) -> u64
+    ensures { λ r. ⌜ r ≡ sections-of low high ⌝ }
+{
+    2 * (low as u64 + 256 * (high as u64))
+}
+
+fn flags_word(own: u64, other: u64, link: u8) -> u64
+    requires { ⌜ (own ≤ 1048575) × (other ≤ 1048575) ⌝ }
+    ensures { λ r. ⌜ r ≡ flags-word own other link ⌝ }
+{
+    own + 65536 * (other + 65536 * (link as u64))
+}
+
+fn flags_in(body: &[u8]) -> u64
     requires { ⌜ 19 ≤ length (now body) ⌝ }
-    ensures { λ r. ⌜ r ≡ in-words (now (body .entry)) ⌝ }
+    ensures { λ r. ⌜ r ≡ in-words (now (body .entry)) .flags ⌝ }
 {
     let own = station_word(StationCodes {
         orientation: body[1],
@@ -70,8 +68,6 @@ fn decoded(body: &[u8]) -> Situation
         bslg: body[11] % 2,
         reminder: body[12] % 2,
         asks: body[9] % 2,
-        low: body[15],
-        high: body[16],
     });
     let other = station_word(StationCodes {
         orientation: body[2],
@@ -82,21 +78,36 @@ fn decoded(body: &[u8]) -> Situation
         bslg: body[11] / 2,
         reminder: body[12] / 2,
         asks: body[9] / 2,
-        low: body[17],
-        high: body[18],
     });
-    let line = line_word(body[0], body[13], body[14]);
-    Situation { line, own, other }
+    flags_word(own, other, body[0])
+}
+
+fn decoded(body: &[u8]) -> Situation
+    requires { ⌜ 19 ≤ length (now body) ⌝ }
+    ensures { λ r. ⌜ r ≡ in-words (now (body .entry)) ⌝ }
+{
+    let flags = flags_in(body);
+    let occupied = sections_of(body[13], body[14]);
+    let signals = Signals {
+        heldb: sections_of(body[15], body[16]),
+        helda: sections_of(body[17], body[18]),
+    };
+    Situation {
+        flags,
+        occupied,
+        signals,
+    }
 }
 
 // A situation that is sound in no plan: what bytes are read as that no situation has. Each station's SOBB is pending.
 fn no_situation() -> Situation
     ensures { λ r. ⌜ unpacked r ≡ no-situation ⌝ }
 {
+    let signals = Signals { heldb: 0, helda: 0 };
     Situation {
-        line: 0,
-        own: 1024,
-        other: 1024,
+        flags: 67109888,
+        occupied: 0,
+        signals,
     }
 }
 
@@ -117,31 +128,30 @@ pub fn situation_in(body: &[u8]) -> Situation
 pub fn body_of(x: Situation) -> [u8; 19]
     ensures { λ r. ⌜ r ≡ situation-bytes (unpacked x) ⌝ }
 {
-    let own = x.own;
-    let other = x.other;
+    let own = x.own();
+    let other = x.other();
     let heldb = x.held(Direction::TowardsB);
     let helda = x.held(Direction::TowardsA);
-    let occupied = x.occupied_sections();
     let pending = Pending {
-        own: asks(own),
-        other: asks(other),
+        own: x.asks(),
+        other: x.other_asks(),
     };
     [
         flag(x.linked()),
-        orientation(own).code(),
-        orientation(other).code(),
-        annulment(own).code(),
-        annulment(other).code(),
-        exit_route(own).code(),
-        exit_route(other).code(),
-        flag(entry(own)),
-        flag(entry(other)),
+        own.orientation().code(),
+        other.orientation().code(),
+        own.annulment().code(),
+        other.annulment().code(),
+        own.exit_route().code(),
+        other.exit_route().code(),
+        flag(own.has_entry()),
+        flag(other.has_entry()),
         pending.code(),
-        bits(bilc(own), bilc(other)),
-        bits(bslg(own), bslg(other)),
-        bits(reminder(own), reminder(other)),
-        first_byte(occupied),
-        second_byte(occupied),
+        bits(own.has_bilc(), other.has_bilc()),
+        bits(own.has_bslg(), other.has_bslg()),
+        bits(own.has_reminder(), other.has_reminder()),
+        first_byte(x.occupied),
+        second_byte(x.occupied),
         first_byte(heldb),
         second_byte(heldb),
         first_byte(helda),

@@ -5,7 +5,7 @@ use mathlib.Core.Path.{_≡_, refl}
 use mathlib.Core.Bool.{Bool, true, false, not, true≢false, false≢true}
 use mathlib.Core.List.{List, [], _∷_, map}
 use lib.ListN.{drop}
-use Rattle.sections.specs.Words.{_and_}
+use Rattle.words.specs.Words.{_and_}
 use Rattle.keylaws.specs.Rules.{Rules}
 use Rattle.keylaws.specs.Key.{emptyIf}
 use Rattle.keylaws.specs.Parts.{Part, handed}

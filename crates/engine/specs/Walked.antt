@@ -3,13 +3,13 @@ use Prim.Native.Nat.{ℕ, _+_, _-_, _/_}
 use mathlib.Core.Bool.{Bool, false, not}
 use mathlib.Core.List.{List, map}
 use lib.ListN.{length, drop, getD}
-use Rattle.sections.specs.Words.{_and_}
+use Rattle.words.specs.Words.{_and_}
 use Rattle.keylaws.specs.Rules.{Word}
 use Rattle.keylaws.specs.Parts.{Part, handed}
 use Rattle.keylaws.specs.Walk.{emptyOff, tries, aims, starts, walk}
 use Rattle.keylaws.specs.Sheet.{grows, put}
 use Rattle.block.specs.declared.line.Plan.{Plan}
-use Rattle.block.specs.declared.situation.Situation.{Situation}
+use Rattle.block.specs.Situation.{Situation}
 use Rattle.rules.specs.RulesOf.{all-hold, rulesOf}
 use Rattle.engine.specs.declared.Ask.{Ask}
 use Rattle.engine.specs.declared.Node.{Node}

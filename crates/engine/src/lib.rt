@@ -6,18 +6,22 @@ ghost use lib.ListN.{length, getD};
 ghost use Rattle.keylaws.specs.Continuation.{isContinuation};
 ghost use Rattle.keylaws.specs.Parts.{handed, partAfter};
 ghost use Rattle.keylaws.specs.Walk.{aims, starts};
-ghost use Rattle.packed.specs.Packed.{unpacked};
-ghost use Rattle.rules.specs.RulesOf.{tried, rulesOf};
+ghost use Rattle.situation.specs.Packed.{unpacked};
+ghost use Rattle.block.specs.Line.{isPlan};
+ghost use Rattle.block.specs.Apply.{reached};
+ghost use Rattle.rules.specs.RulesOf.{rulesOf};
 ghost use Rattle.rules.specs.Judged.{all-right};
-ghost use Rattle.rules.specs.Wanted.{wanted-of};
+ghost use Rattle.rules.specs.Wanted.{Asked};
 ghost use Rattle.engine.specs.Walked.{own, ends, explored, attempted};
+use block::event::Event;
 use block::line::Plan;
-use packed::situation::Situation;
-use rules::tries::reached_at;
-use rules::tries::refusal_at;
+use events::next;
+use events::own_refusal;
+use rules::tries::event_at;
 use rules::wanted::Wanted;
 use rules::wanted::all_hold;
 use rules::wanted::wanted_of;
+use situation::Situation;
 use slots::form::FROM_START;
 use slots::room::Part;
 use slots::room::grow_slot;
@@ -67,7 +71,7 @@ fn start_of(from: [u8; 6], depth: usize, on: bool) -> Start
 // The situation's own answer, unless the walk is still on its way to the continuation.
 fn own_answer(ask: Ask, x: Situation, at: Node, readings: &[u8], room: &mut [u8]) -> Part
     requires { ⌜ 6 * at .count ≤ length (now room) ⌝ }
-    requires { ⌜ ask .wanted ≡ wanted-of (now readings) ⌝ }
+    requires { ⌜ Asked (ask .plan) (ask .wanted) (now readings) ⌝ }
     ensures put { λ r. ⌜ handed (now (room .exit)) (r .count) (r .more) ≡ own (ask .plan) (now (readings .entry)) (unpacked x) at (now (room .entry)) ⌝ }
     ensures fits { λ r. ⌜ 6 * r .count ≤ length (now (room .exit)) ⌝ }
 {
@@ -84,18 +88,9 @@ fn own_answer(ask: Ask, x: Situation, at: Node, readings: &[u8], room: &mut [u8]
 
 // Whether an accepted event ends an answer, unless it lies on the way to the continuation. With no readings nothing has to be known of the
 // situation that it leads to.
-fn ends_answer(
-    x: Situation,
-    on: bool,
-    ask: Ask,
-    events: &[u8],
-    readings: &[u8],
-    place: usize,
-) -> bool
-    requires { ⌜ (1 ≤ place) × (2 * place ≤ length (now events)) ⌝ }
-    requires { ⌜ tried (ask .plan) (now events) (unpacked x) place .refusal ≡ 0 ⌝ }
-    requires { ⌜ ask .wanted ≡ wanted-of (now readings) ⌝ }
-    ensures { λ r. ⌜ r ≡ ends on (ask .plan) (now (readings .entry)) (tried (ask .plan) (now (events .entry)) (unpacked x) place .next) ⌝ }
+fn ends_answer(x: Situation, on: bool, ask: Ask, event: Event, readings: &[u8]) -> bool
+    requires { ⌜ Asked (ask .plan) (ask .wanted) (now readings) ⌝ }
+    ensures { λ r. ⌜ r ≡ ends on (ask .plan) (now (readings .entry)) (reached (ask .plan) (unpacked x) event) ⌝ }
 {
     if on {
         return false;
@@ -103,8 +98,8 @@ fn ends_answer(
     if readings.len() < 3 {
         return true;
     }
-    let reached = reached_at(ask.plan, x, events, place);
-    all_hold(ask.plan, ask.wanted, reached, readings)
+    let after = next(ask.plan, x, event);
+    all_hold(ask.plan, ask.wanted, after, readings)
 }
 
 // The answers from a situation: the empty one if the readings hold, then those of its events, while length remains.
@@ -118,7 +113,7 @@ fn explore(
 ) -> Part
     requires { ⌜ 6 * at .count ≤ length (now room) ⌝ }
     requires { ⌜ (length (now events) ≤ 24) × (at .depth + at .left ≤ 5) ⌝ }
-    requires { ⌜ (all-right (ask .plan) (now events) ≡ true) × (ask .wanted ≡ wanted-of (now readings)) ⌝ }
+    requires { ⌜ (all-right (ask .plan) (now events) ≡ true) × (Asked (ask .plan) (ask .wanted) (now readings)) ⌝ }
     ensures put { λ r. ⌜ handed (now (room .exit)) (r .count) (r .more) ≡ explored ask (now (events .entry)) (now (readings .entry)) (unpacked x) at (now (room .entry)) ⌝ }
     ensures fits { λ r. ⌜ 6 * r .count ≤ length (now (room .exit)) ⌝ }
 {
@@ -148,7 +143,7 @@ fn attempt(
 ) -> Part
     requires { ⌜ 6 * at .count ≤ length (now room) ⌝ }
     requires { ⌜ (length (now events) ≤ 24) × (at .depth + at .left ≤ 5) × (1 ≤ at .left) ⌝ }
-    requires { ⌜ (all-right (ask .plan) (now events) ≡ true) × (ask .wanted ≡ wanted-of (now readings)) ⌝ }
+    requires { ⌜ (all-right (ask .plan) (now events) ≡ true) × (Asked (ask .plan) (ask .wanted) (now readings)) ⌝ }
     ensures put { λ r. ⌜ handed (now (room .exit)) (r .count) (r .more) ≡ attempted ask (now (events .entry)) (now (readings .entry)) (unpacked x) at (now (room .entry)) ⌝ }
     ensures fits { λ r. ⌜ 6 * r .count ≤ length (now (room .exit)) ⌝ }
 {
@@ -162,9 +157,10 @@ fn attempt(
     let mut place = start.place;
     let mut count = at.count;
     while place <= n {
-        if refusal_at(ask.plan, x, events, place) == 0 {
+        let event = event_at(events, place);
+        if own_refusal(ask.plan, x, event) == 0 {
             if left == 1 {
-                if ends_answer(x, on, ask, events, readings, place) {
+                if ends_answer(x, on, ask, event, readings) {
                     let part = put_slot(grow_slot(slot, depth, place), count, room);
                     if part.more {
                         return Part {
@@ -182,8 +178,8 @@ fn attempt(
                     on,
                     count,
                 };
-                let reached = reached_at(ask.plan, x, events, place);
-                let part = explore(reached, node, ask, events, readings, room);
+                let after = next(ask.plan, x, event);
+                let part = explore(after, node, ask, events, readings, room);
                 if part.more {
                     return Part {
                         count: part.count,
@@ -211,7 +207,7 @@ pub fn key_part(
 ) -> Part
     requires { ⌜ (length (now events) ≤ 24) × (limit ≤ 5) ⌝ }
     requires { ⌜ isContinuation (length (now events) / 2) limit from ≡ true ⌝ }
-    requires { ⌜ all-right plan (now events) ≡ true ⌝ }
+    requires { ⌜ (all-right plan (now events) ≡ true) × (isPlan plan ≡ true) ⌝ }
     ensures { λ r. ⌜ handed (now (room .exit)) (r .count) (r .more) ≡ partAfter (rulesOf plan (now (events .entry)) (now (readings .entry))) limit (unpacked start) from (now (room .entry)) ⌝ }
 {
     let root = Node {

@@ -1,104 +1,86 @@
--- What befalls a signal, a section or the link is the same as either station sees it: what it is refused for, and but for a section
--- that becomes occupied where it leads. Assumes nothing.
+-- What refuses an event of a section or of a signal, and where one leads that leaves the stations, is the same as either station sees it.
+-- Assumes nothing.
 use Prim.Native.Nat.{ℕ}
-use mathlib.Core.Path.{_≡_, refl, ap, _∙_}
-use mathlib.Core.Bool.{Bool, true, false}
-use Rattle.sections.specs.Words.{_and_, _or_, if_then_else_}
-use Rattle.block.specs.Checks.{Row, refusal, effect}
-use Rattle.block.specs.Situation.{nobody, none, _is-out, _is-in, withLink, withPending, reoriented, turnedRound, seen-from, one-out-one-in}
-use Rattle.block.specs.Pending.{changes, orientation-change, pending-settled}
-use Rattle.block.specs.Events.{bslb, bslb-off, freed, link-lost, link-restored}
+use mathlib.Core.Path.{_≡_, refl, sym, ap, _∙_}
+use Rattle.sections.specs.Sections.{_with-section_, _without-section_}
+use Rattle.block.specs.Situation.{Situation, Kept, turnedRound, seen-from, kept-from, held, with-held, withTrack, withOccupied}
+use Rattle.block.specs.Table.{Kind, Bslb, BslbOff, Occupied, Freed}
+use Rattle.block.specs.Apply.{refuses, leads, refusal-at, led-at}
 use Rattle.block.specs.declared.line.Name.{Name}
 use Rattle.block.specs.declared.line.Name.the-variants.{StationA, StationB}
-use Rattle.block.specs.declared.line.Direction.{Direction}
-use Rattle.block.specs.declared.line.Direction.the-variants.{TowardsA, TowardsB}
-use Rattle.block.specs.declared.situation.Situation.{Situation}
-use Rattle.events.specs.Event.{Place, Occupied, Unknown}
-use Rattle.events.specs.Rows.{row}
+use Rattle.block.specs.declared.event.Spot.{Spot}
+use Rattle.situation.proofs.Settled.{stays}
 
-or-turned : (a b : Bool) → (a or b) ≡ (b or a)
-or-turned true true = refl
-or-turned true false = refl
-or-turned false true = refl
-or-turned false false = refl
+-- a refusal that the view does not change
+abbrev Seen-alike : Kind → Spot → Kept → Type 0
+Seen-alike e at x = (s : Name) → refuses e at (seen-from s x) ≡ refuses e at x
 
-and-turned : (a b : Bool) → (a and b) ≡ (b and a)
-and-turned true true = refl
-and-turned true false = refl
-and-turned false true = refl
-and-turned false false = refl
+from-either : (e : Kind) (at : Spot) (x : Kept) → Seen-alike e at x → {r : ℕ} → r ≡ refuses e at x → r ≡ refusal-at e at x
+unfolding refusal-at
+from-either e at x alike h = h ∙ sym (alike (at .own))
 
--- a row that the other station sees as this one does
-pub record Alike (f : Situation → Row) : Type 0 where
-  pub refused : (x : Situation) → refusal (f (turnedRound x)) ≡ refusal (f x)
-  pub led : (x : Situation) → effect (f (turnedRound x)) ≡ turnedRound (effect (f x))
+module _ (at : Spot) (x : Kept) where
+  bslb-alike : Seen-alike Bslb at x
+  bslb-alike StationA = refl
+  bslb-alike StationB = refl
 
--- ---- the rows
-pub bslb-alike : (d : Direction) (k : ℕ) → Alike (λ x. bslb x d k)
-bslb-alike TowardsA k = record { refused = λ x. refl; led = λ x. refl }
-bslb-alike TowardsB k = record { refused = λ x. refl; led = λ x. refl }
+  bslb-off-alike : Seen-alike BslbOff at x
+  bslb-off-alike StationA = refl
+  bslb-off-alike StationB = refl
 
-pub bslb-off-alike : (d : Direction) (k : ℕ) → Alike (λ x. bslb-off x d k)
-bslb-off-alike TowardsA k = record { refused = λ x. refl; led = λ x. refl }
-bslb-off-alike TowardsB k = record { refused = λ x. refl; led = λ x. refl }
+  occupied-alike : Seen-alike Occupied at x
+  occupied-alike StationA = refl
+  occupied-alike StationB = refl
 
-pub freed-alike : (k : ℕ) → Alike (λ x. freed x k)
-freed-alike k = record { refused = λ x. refl; led = λ x. refl }
+  freed-alike : Seen-alike Freed at x
+  freed-alike StationA = refl
+  freed-alike StationB = refl
 
-pub link-lost-alike : Alike link-lost
-link-lost-alike = record { refused = λ x. refl; led = λ x. refl }
+  pub bslb-refused : {r : ℕ} → r ≡ refuses Bslb at x → r ≡ refusal-at Bslb at x
+  bslb-refused = from-either Bslb at x bslb-alike
 
-one-out-one-in-turned : (x : Situation) → one-out-one-in (turnedRound x) ≡ one-out-one-in x
-one-out-one-in-turned x =
-    or-turned (x .other is-out and x .own is-in) (x .other is-in and x .own is-out)
-    ∙ ap (λ (v : Bool). v or (x .other is-out and x .own is-in)) (and-turned (x .other is-in) (x .own is-out))
-    ∙ ap (λ (v : Bool). (x .own is-out and x .other is-in) or v) (and-turned (x .other is-out) (x .own is-in))
+  pub bslb-off-refused : {r : ℕ} → r ≡ refuses BslbOff at x → r ≡ refusal-at BslbOff at x
+  bslb-off-refused = from-either BslbOff at x bslb-off-alike
 
-abbrev restored : Bool → Situation → Situation
-restored agree x = if agree then withLink true x else reoriented none none (withLink true x)
+  pub occupied-refused : {r : ℕ} → r ≡ refuses Occupied at x → r ≡ refusal-at Occupied at x
+  occupied-refused = from-either Occupied at x occupied-alike
 
-restored-turned : (agree : Bool) (x : Situation) → restored agree (turnedRound x) ≡ turnedRound (restored agree x)
-restored-turned true x = refl
-restored-turned false x = refl
+  pub freed-refused : {r : ℕ} → r ≡ refuses Freed at x → r ≡ refusal-at Freed at x
+  freed-refused = from-either Freed at x freed-alike
 
-pub link-restored-alike : Alike link-restored
-link-restored-alike =
-    record {
-      refused = λ x. refl;
-      led = λ x. ap (λ (v : Bool). restored v (turnedRound x)) (one-out-one-in-turned x) ∙ restored-turned (one-out-one-in x) x;
-    }
+-- ---- where it leads: f, which leaves pending to itself and commutes with the view
+module _ (e : Kind) (at : Spot) (x : Kept) (f : Situation → Situation) (goes : (y : Situation) → f y ≡ leads e at y) (alike : (s : Name) → f x ≡ kept-from s (f (seen-from s x))) where
+  led-alike : {z : Kept} → z ≡ leads e at x → z ≡ led-at e at x
+  unfolding led-at
+  led-alike h = h ∙ sym (goes x) ∙ alike (at .own) ∙ ap (kept-from (at .own)) (goes (seen-from (at .own) x))
 
-pub unknown-alike : (at : Place) → Alike (row Unknown at)
-unknown-alike at = record { refused = λ x. refl; led = λ x. refl }
+module _ (at : Spot) (x : Kept) where
+  abbrev set : Situation → Situation
+  set y = with-held (at .direction) (held y (at .direction) with-section at .section) y
 
--- ---- seen from either station
-module _ {f : Situation → Row} (alike : Alike f) where
-  pub refused-alike : (s : Name) (x : Situation) → refusal (f (seen-from s x)) ≡ refusal (f x)
-  refused-alike StationA x = refl
-  refused-alike StationB x = alike .refused x
+  abbrev clear : Situation → Situation
+  clear y = with-held (at .direction) (held y (at .direction) without-section at .section) y
 
-  led-alike : (s : Name) (x : Situation) → effect (f (seen-from s x)) ≡ seen-from s (effect (f x))
-  led-alike StationA x = refl
-  led-alike StationB x = alike .led x
+  abbrev free : Situation → Situation
+  free y = withTrack (withOccupied (y .traffic .track .occupied without-section at .section) (y .traffic .track)) y
 
-pub occupied-refused-alike : (s : Name) (at : Place) (x : Situation) → refusal (row Occupied at (seen-from s x)) ≡ refusal (row Occupied at x)
-occupied-refused-alike StationA at x = refl
-occupied-refused-alike StationB at x = refl
+  set-alike : (s : Name) → set x ≡ kept-from s (set (seen-from s x))
+  set-alike StationA = refl
+  set-alike StationB = refl
 
-abbrev cleared : Bool → Situation → Situation
-cleared v y = if v then withPending nobody y else y
+  clear-alike : (s : Name) → clear x ≡ kept-from s (clear (seen-from s x))
+  clear-alike StationA = refl
+  clear-alike StationB = refl
 
-cleared-turned : (v : Bool) (y : Situation) → turnedRound (cleared v (turnedRound y)) ≡ cleared v y
-cleared-turned true y = refl
-cleared-turned false y = refl
+  free-alike : (s : Name) → free x ≡ kept-from s (free (seen-from s x))
+  free-alike StationA = refl
+  free-alike StationB = refl
 
-settled-alike : (s : Name) (always : Bool) (x y : Situation) → seen-from s (pending-settled always (seen-from s x) (seen-from s y)) ≡ pending-settled always x y
-settled-alike StationA always x y = refl
-settled-alike StationB always x y =
-    cleared-turned (always or orientation-change (turnedRound x) (turnedRound y)) y
-    ∙ ap (λ (v : Bool). cleared (always or v) y) (or-turned (changes (x .other .orientation) (y .other .orientation)) (changes (x .own .orientation) (y .own .orientation)))
+  pub bslb-led : {z : Kept} → z ≡ leads Bslb at x → z ≡ led-at Bslb at x
+  bslb-led = led-alike Bslb at x set (λ y. stays y refl refl) set-alike
 
-module _ {f : Situation → Row} (alike : Alike f) (s : Name) (always : Bool) (x : Situation) where
-  pub leads-alike : seen-from s (pending-settled always (seen-from s x) (effect (f (seen-from s x)))) ≡ pending-settled always x (effect (f x))
-  leads-alike =
-      ap (λ (y : Situation). seen-from s (pending-settled always (seen-from s x) y)) (led-alike alike s x) ∙ settled-alike s always x (effect (f x))
+  pub bslb-off-led : {z : Kept} → z ≡ leads BslbOff at x → z ≡ led-at BslbOff at x
+  bslb-off-led = led-alike BslbOff at x clear (λ y. stays y refl refl) clear-alike
+
+  pub freed-led : {z : Kept} → z ≡ leads Freed at x → z ≡ led-at Freed at x
+  freed-led = led-alike Freed at x free (λ y. stays y refl refl) free-alike

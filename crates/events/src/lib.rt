@@ -1,15 +1,30 @@
-// Orders and happenings: an event, as its two bytes, on a situation that is kept as A sees it.
+// Orders and happenings: an event on a situation as it is kept.
 ghost use mathlib.Core.Path.{_≡_};
-ghost use Rattle.packed.specs.Packed.{of-words, unpacked};
-ghost use Rattle.events.specs.Apply.{known, of-signal, of-section, of-link, argument-right, own-refusal, reached, stepped, applied, outcome};
+ghost use Rattle.block.specs.Table.{station, section, kind-of, Occupied};
+ghost use Rattle.block.specs.Apply.{fits, known, argument-right, spot-named, led-at, own-refusal, reached, stepped, applied};
+ghost use Rattle.situation.specs.Packed.{unpacked};
+ghost use Rattle.events.specs.Outcomes.{outcome};
+use block::event::Event;
+use block::event::Spot;
 use block::line::Plan;
 use block::line::direction_of;
 use block::line::section_of;
 use block::line::station_named;
 use block::refused::UNKNOWN_CODE;
 use block::refused::WRONG_ARGUMENT;
-use judging::judged;
-use packed::situation::Situation;
+use situation::Situation;
+use soundness::judged;
+
+// What an argument names; 0 of no event.
+const UNKNOWN: u8 = 0;
+
+const STATION: u8 = 1;
+
+const SIGNAL: u8 = 2;
+
+const SECTION: u8 = 3;
+
+const NOTHING: u8 = 4;
 
 // The refusal, 0 where the event is accepted, and the situation after.
 pub struct Applied {
@@ -17,169 +32,199 @@ pub struct Applied {
     pub next: Situation,
 }
 
-pub fn known(code: u8) -> bool
-    ensures { λ r. ⌜ r ≡ known code ⌝ }
+// What the argument of each code names.
+fn argument_of(code: u8) -> u8
+    ensures { λ r. ⌜ r ≡ kind-of code .argument ⌝ }
 {
-    (1 <= code) & (code <= 22)
+    if (code == 10) | (code == 11) {
+        return SIGNAL;
+    }
+    if (code == 19) | (code == 20) {
+        return SECTION;
+    }
+    if (code == 21) | (code == 22) {
+        return NOTHING;
+    }
+    if (1 <= code) & (code <= 18) {
+        return STATION;
+    }
+    UNKNOWN
 }
 
-fn of_signal(code: u8) -> bool
-    ensures { λ r. ⌜ r ≡ of-signal code ⌝ }
+fn fits(plan: Plan, names: u8, arg: u8) -> bool
+    ensures { λ r. ⌜ r ≡ fits plan names arg ⌝ }
 {
-    (code == 10) | (code == 11)
-}
-
-fn of_section(code: u8) -> bool
-    ensures { λ r. ⌜ r ≡ of-section code ⌝ }
-{
-    (code == 19) | (code == 20)
-}
-
-fn of_link(code: u8) -> bool
-    ensures { λ r. ⌜ r ≡ of-link code ⌝ }
-{
-    (code == 21) | (code == 22)
-}
-
-pub fn argument_right(plan: Plan, code: u8, arg: u8) -> bool
-    ensures { λ r. ⌜ r ≡ argument-right plan code arg ⌝ }
-{
-    if of_signal(code) {
+    if names == SIGNAL {
         return plan.is_block_signal(arg);
     }
-    if of_section(code) {
+    if names == SECTION {
         return plan.is_section(arg);
     }
-    if of_link(code) {
+    if names == NOTHING {
         return arg == 0;
     }
     arg <= 1
 }
 
-// The event's own refusal, of a code that is known and an argument that is right. What a section, a signal or the link is refused for is
-// the same as either station sees it. The situation comes word by word, since as one value it would be copied for every event that is tried.
-pub fn own_refusal(plan: Plan, line: u64, own: u64, other: u64, code: u8, arg: u8) -> u8
-    ensures { λ r. ⌜ r ≡ own-refusal plan (unpacked (of-words line own other)) code arg ⌝ }
+pub fn known(event: Event) -> bool
+    ensures { λ r. ⌜ r ≡ known event ⌝ }
 {
-    let x = Situation { line, own, other };
-    let s = station_named(arg);
-    let seen = x.seen_from(s);
+    let names = argument_of(event.code);
+    names != UNKNOWN
+}
+
+pub fn argument_right(plan: Plan, event: Event) -> bool
+    ensures { λ r. ⌜ r ≡ argument-right plan event ⌝ }
+{
+    let names = argument_of(event.code);
+    fits(plan, names, event.argument)
+}
+
+// Where an event of a station happens, or of the link, for which A stands.
+fn at_station(plan: Plan, arg: u8) -> Spot
+    ensures { λ r. ⌜ r ≡ spot-named plan station arg ⌝ }
+{
+    let own = station_named(arg);
+    let section = section_of(arg);
+    let direction = direction_of(arg);
+    Spot {
+        plan,
+        own,
+        section,
+        direction,
+    }
+}
+
+// Where an event of a section or of a signal happens: own is the owner.
+fn at_owner(plan: Plan, arg: u8) -> Spot
+    ensures { λ r. ⌜ r ≡ spot-named plan section arg ⌝ }
+{
+    let section = section_of(arg);
+    let own = plan.owner(section as u16);
+    let direction = direction_of(arg);
+    Spot {
+        plan,
+        own,
+        section,
+        direction,
+    }
+}
+
+// The event's own refusal, of a code that is known and an argument that is right. What refuses an event of a section or of a signal is the
+// same as either station sees it.
+pub fn own_refusal(plan: Plan, x: Situation, event: Event) -> u8
+    ensures { λ r. ⌜ r ≡ own-refusal plan (unpacked x) event ⌝ }
+{
+    let code = event.code;
+    let at = at_station(plan, event.argument);
+    let there = at_owner(plan, event.argument);
+    let own = at.own;
+    let seen = x.seen_from(own);
     match code {
-        1 => refusals::sobb_refusal(seen),
-        2 => refusals::cobb_refusal(seen),
-        3 => refusals::afbli_refusal(seen),
-        4 => refusals::afble_refusal(seen),
-        5 => refusals::dafbl_refusal(seen),
-        6 => refusals::bilc_refusal(seen),
-        7 => refusals::dilc_refusal(seen),
-        8 => refusals::bslg_refusal(seen),
-        9 => refusals::bslg_off_refusal(seen),
-        10 => refusals::bslb_refusal(x, direction_of(arg), section_of(arg)),
-        11 => refusals::bslb_off_refusal(x, direction_of(arg), section_of(arg)),
-        12 => refusals::reminder_refusal(seen),
-        13 => refusals::reminder_off_refusal(seen),
-        14 => refusals::exit_normal_refusal(seen),
-        15 => refusals::exit_special_refusal(seen),
-        16 => refusals::exit_released_refusal(seen),
-        17 => refusals::entry_refusal(seen),
-        18 => refusals::entry_released_refusal(seen),
-        19 => refusals::occupied_refusal(x, section_of(arg)),
-        20 => refusals::freed_refusal(x, section_of(arg)),
-        21 => refusals::link_lost_refusal(x),
-        22 => refusals::link_restored_refusal(x),
+        1 => refusals::sobb_refusal(seen, at),
+        2 => refusals::cobb_refusal(seen, at),
+        3 => refusals::afbli_refusal(seen, at),
+        4 => refusals::afble_refusal(seen, at),
+        5 => refusals::dafbl_refusal(seen, at),
+        6 => refusals::bilc_refusal(seen, at),
+        7 => refusals::dilc_refusal(seen, at),
+        8 => refusals::bslg_refusal(seen, at),
+        9 => refusals::bslg_off_refusal(seen, at),
+        10 => refusals::bslb_refusal(x, there),
+        11 => refusals::bslb_off_refusal(x, there),
+        12 => refusals::reminder_refusal(seen, at),
+        13 => refusals::reminder_off_refusal(seen, at),
+        14 => refusals::exit_normal_refusal(seen, at),
+        15 => refusals::exit_special_refusal(seen, at),
+        16 => refusals::exit_released_refusal(seen, at),
+        17 => refusals::entry_refusal(seen, at),
+        18 => refusals::entry_released_refusal(seen, at),
+        19 => refusals::occupied_refusal(x, there),
+        20 => refusals::freed_refusal(x, there),
+        21 => refusals::link_lost_refusal(seen, at),
+        22 => refusals::link_restored_refusal(seen, at),
         _ => UNKNOWN_CODE,
     }
 }
 
-// Where a section becoming occupied leads; own is its owner.
-fn occupied_at(plan: Plan, x: Situation, arg: u8) -> Situation
-    ensures { λ r. ⌜ unpacked r ≡ reached plan (unpacked x) 19 arg ⌝ }
+// Where a section becoming occupied leads.
+fn occupied_at(x: Situation, at: Spot) -> Situation
+    ensures { λ r. ⌜ unpacked r ≡ led-at Occupied at (unpacked x) ⌝ }
 {
-    let k = section_of(arg);
-    let own = plan.owner(k as u16);
+    let own = at.own;
     let seen = x.seen_from(own);
-    seen.occupied(plan, own, k)
-        .pending_settled(true, seen)
-        .seen_from(own)
+    seen.occupied(at).seen_from(own)
 }
 
-// Where an accepted event leads. AFBLI, AFBLE, a section occupied and link lost clear pending by themselves.
-pub fn next(plan: Plan, line: u64, own: u64, other: u64, code: u8, arg: u8) -> Situation
-    ensures { λ r. ⌜ unpacked r ≡ reached plan (unpacked (of-words line own other)) code arg ⌝ }
+// Where an accepted event leads.
+pub fn next(plan: Plan, x: Situation, event: Event) -> Situation
+    ensures { λ r. ⌜ unpacked r ≡ reached plan (unpacked x) event ⌝ }
 {
-    let x = Situation { line, own, other };
-    let s = station_named(arg);
-    let seen = x.seen_from(s);
+    let code = event.code;
+    let at = at_station(plan, event.argument);
+    let there = at_owner(plan, event.argument);
+    let own = at.own;
+    let seen = x.seen_from(own);
     match code {
-        1 => seen.sobb().pending_settled(false, seen).seen_from(s),
-        2 => seen.cobb().pending_settled(false, seen).seen_from(s),
-        3 => seen.afbli().pending_settled(true, seen).seen_from(s),
-        4 => seen.afble().pending_settled(true, seen).seen_from(s),
-        5 => seen.dafbl().pending_settled(false, seen).seen_from(s),
-        6 => seen.bilc().pending_settled(false, seen).seen_from(s),
-        7 => seen.dilc().pending_settled(false, seen).seen_from(s),
-        8 => seen.bslg().pending_settled(false, seen).seen_from(s),
-        9 => seen.bslg_off().pending_settled(false, seen).seen_from(s),
-        10 => x.bslb(direction_of(arg), section_of(arg))
-            .pending_settled(false, x),
-        11 => x.bslb_off(direction_of(arg), section_of(arg))
-            .pending_settled(false, x),
-        12 => seen.reminder().pending_settled(false, seen).seen_from(s),
-        13 => seen.reminder_off()
-            .pending_settled(false, seen)
-            .seen_from(s),
-        14 => seen.exit_normal().pending_settled(false, seen).seen_from(s),
-        15 => seen.exit_special()
-            .pending_settled(false, seen)
-            .seen_from(s),
-        16 => seen.exit_released()
-            .pending_settled(false, seen)
-            .seen_from(s),
-        17 => seen.entry().pending_settled(false, seen).seen_from(s),
-        18 => seen.entry_released()
-            .pending_settled(false, seen)
-            .seen_from(s),
-        19 => occupied_at(plan, x, arg),
-        20 => x.freed(section_of(arg)).pending_settled(false, x),
-        21 => x.link_lost().pending_settled(true, x),
-        22 => x.link_restored().pending_settled(false, x),
+        1 => seen.sobb(at).seen_from(own),
+        2 => seen.cobb(at).seen_from(own),
+        3 => seen.afbli(at).seen_from(own),
+        4 => seen.afble(at).seen_from(own),
+        5 => seen.dafbl(at).seen_from(own),
+        6 => seen.bilc(at).seen_from(own),
+        7 => seen.dilc(at).seen_from(own),
+        8 => seen.bslg(at).seen_from(own),
+        9 => seen.bslg_off(at).seen_from(own),
+        10 => x.bslb(there),
+        11 => x.bslb_off(there),
+        12 => seen.reminder(at).seen_from(own),
+        13 => seen.reminder_off(at).seen_from(own),
+        14 => seen.exit_normal(at).seen_from(own),
+        15 => seen.exit_special(at).seen_from(own),
+        16 => seen.exit_released(at).seen_from(own),
+        17 => seen.entry(at).seen_from(own),
+        18 => seen.entry_released(at).seen_from(own),
+        19 => occupied_at(x, there),
+        20 => x.freed(there),
+        21 => seen.link_lost(at).seen_from(own),
+        22 => seen.link_restored(at).seen_from(own),
         _ => x,
     }
 }
 
 // Refusals 3 unknown code, 4 argument, then the event's own, for a plan and a situation that are judged already.
-fn refusal(plan: Plan, x: Situation, code: u8, arg: u8) -> u8
-    ensures { λ r. ⌜ r ≡ stepped plan (unpacked x) code arg .refusal ⌝ }
+fn refusal(plan: Plan, x: Situation, event: Event) -> u8
+    ensures { λ r. ⌜ r ≡ stepped plan (unpacked x) event .refusal ⌝ }
 {
-    if !known(code) {
+    if !known(event) {
         return UNKNOWN_CODE;
     }
-    if !argument_right(plan, code, arg) {
+    if !argument_right(plan, event) {
         return WRONG_ARGUMENT;
     }
-    own_refusal(plan, x.line, x.own, x.other, code, arg)
+    own_refusal(plan, x, event)
 }
 
 // A plan and a situation that are judged already.
-fn step(plan: Plan, x: Situation, code: u8, arg: u8) -> Applied
-    ensures { λ r. ⌜ outcome r ≡ stepped plan (unpacked x) code arg ⌝ }
+fn step(plan: Plan, x: Situation, event: Event) -> Applied
+    ensures { λ r. ⌜ outcome r ≡ stepped plan (unpacked x) event ⌝ }
 {
-    let refusal = refusal(plan, x, code, arg);
+    let refusal = refusal(plan, x, event);
     if refusal != 0 {
         return Applied { refusal, next: x };
     }
-    let next = next(plan, x.line, x.own, x.other, code, arg);
+    let next = next(plan, x, event);
     Applied { refusal: 0, next }
 }
 
 // Refusals 1 plan, 2 situation not sound, 3 unknown code, 4 argument, then the event's own. A refused event hands the situation back
 // unchanged.
-pub fn apply(plan: Plan, x: Situation, code: u8, arg: u8) -> Applied
-    ensures { λ r. ⌜ outcome r ≡ applied plan (unpacked x) code arg ⌝ }
+pub fn apply(plan: Plan, x: Situation, event: Event) -> Applied
+    ensures { λ r. ⌜ outcome r ≡ applied plan (unpacked x) event ⌝ }
 {
     let refusal = judged(plan, x);
     if refusal != 0 {
         return Applied { refusal, next: x };
     }
-    step(plan, x, code, arg)
+    step(plan, x, event)
 }

@@ -1,13 +1,14 @@
 -- The marked examples hold: each row is computed, and example 10 is the theorem over every float. Assumes nothing.
 use mathlib.Core.Path.{refl}
 use lib.Ieee.{round}
-use Rattle.events.specs.Apply.{acted, stepped}
+use Rattle.block.specs.Apply.{refusal-at, led-at, acted, stepped}
+use Rattle.signals.specs.Aspects.{shows}
 use Rattle.signals.specs.Readings.{value-read}
 use Rattle.marking.specs.Sheet.{marked}
 use Rattle.marking.proofs.ExampleTen.{no-float-is-right}
 use Rattle.examples.specs.Examples.{All, Holds, table}
 
 pub examples-hold : All table
-unfolding acted stepped value-read marked round All Holds
+unfolding refusal-at led-at acted stepped shows value-read marked round All Holds
 examples-hold =
     (tt, (tt, (tt, (tt, (tt, (tt, (tt, (tt, (tt, (tt, (tt, (tt, (tt, (tt, (refl, ((refl, refl), ((refl, refl), (no-float-is-right, tt))))))))))))))))))

@@ -4,11 +4,11 @@ use mathlib.Core.Bool.{Bool, true, false}
 use mathlib.Core.List.{List, [], _∷_}
 use mathlib.Core.Path.{_≡_}
 use lib.Dec.{T, eqb}
-use Rattle.sections.specs.Words.{_and_}
-use Rattle.block.specs.Situation.{fresh}
+use Rattle.words.specs.Words.{_and_}
+use Rattle.block.specs.Situation.{Kept, fresh}
 use Rattle.block.specs.declared.line.Plan.{Plan}
-use Rattle.block.specs.declared.situation.Situation.{Situation}
-use Rattle.events.specs.Apply.{applied}
+use Rattle.block.specs.Table.{Sobb, Cobb, Afbli, Afble, Bilc, Bslg, ExitNormal, ExitSpecial, Occupied, LinkLost, LinkRestored}
+use Rattle.block.specs.Apply.{event, applied}
 use Rattle.signals.specs.Readings.{value-read}
 use Rattle.marking.specs.Exact.{exactAnswer}
 use Rattle.marking.specs.Sheet.{marked}
@@ -38,41 +38,41 @@ B = 1
 
 -- ---- the orders and happenings that the examples name, by their codes
 abbrev pub SOBB : ℕ
-SOBB = 1
+SOBB = Sobb .code
 
 abbrev pub COBB : ℕ
-COBB = 2
+COBB = Cobb .code
 
 abbrev pub AFBLI : ℕ
-AFBLI = 3
+AFBLI = Afbli .code
 
 abbrev pub AFBLE : ℕ
-AFBLE = 4
+AFBLE = Afble .code
 
 abbrev pub BILC : ℕ
-BILC = 6
+BILC = Bilc .code
 
 abbrev pub BSLG : ℕ
-BSLG = 8
+BSLG = Bslg .code
 
 abbrev pub exit-route : ℕ
-exit-route = 14
+exit-route = ExitNormal .code
 
 abbrev pub special-exit : ℕ
-special-exit = 15
+special-exit = ExitSpecial .code
 
 abbrev pub occupied : ℕ
-occupied = 19
+occupied = Occupied .code
 
 abbrev pub link-lost : ℕ
-link-lost = 21
+link-lost = LinkLost .code
 
 abbrev pub link-restored : ℕ
-link-restored = 22
+link-restored = LinkRestored .code
 
 -- ---- what a row tells: events with the refusal each gets (0 accepted), then what is read; or a number typed
-pub data Event : Type 0 where
-  _at_gives_ : ℕ → ℕ → ℕ → Event
+pub data Tried : Type 0 where
+  _at_gives_ : ℕ → ℕ → ℕ → Tried
 
 pub data Seen : Type 0 where
   signal_shows_ : ℕ → ℕ → Seen
@@ -82,30 +82,30 @@ pub data Seen : Type 0 where
   annulment_is_ : ℕ → ℕ → Seen
 
 pub data Row : Type 0 where
-  _then_ : List Event → List Seen → Row
+  _then_ : List Tried → List Seen → Row
   _metres-at_exactly_seconds : ℕ → ℕ → ℕ → Row
   _metres-at_within_typed_/2^18-gets_error_ : ℕ → ℕ → ℕ → ℕ → ℕ → ℕ → Row
   _metres-at_within-0-no-float-is-right : ℕ → ℕ → Row
 
 -- ---- when a row holds
-abbrev pub show-from : Situation → ℕ → List ℕ → Bool
+abbrev pub show-from : Kept → ℕ → List ℕ → Bool
 show-from x s [] = true
 show-from x s (v ∷ vs) = eqb (value-read plan x 1 s) v and show-from x (s + 1) vs
 
-abbrev pub is-seen : Situation → Seen → Bool
+abbrev pub is-seen : Kept → Seen → Bool
 is-seen x (signal s shows v) = eqb (value-read plan x 1 s) v
 is-seen x (towards-B-show vs) = show-from x 1 vs
 is-seen x (towards-A-show vs) = show-from x 129 vs
 is-seen x (orientation s is v) = eqb (value-read plan x 2 s) v
 is-seen x (annulment s is v) = eqb (value-read plan x 3 s) v
 
-abbrev pub all-seen : Situation → List Seen → Bool
+abbrev pub all-seen : Kept → List Seen → Bool
 all-seen x [] = true
 all-seen x (r ∷ rs) = is-seen x r and all-seen x rs
 
-abbrev pub go : Situation → List Event → List Seen → Bool
+abbrev pub go : Kept → List Tried → List Seen → Bool
 go x [] rs = all-seen x rs
-go x ((code at arg gives refusal) ∷ es) rs = eqb (applied plan x code arg .refusal) refusal and go (applied plan x code arg .next) es rs
+go x ((code at arg gives refusal) ∷ es) rs = eqb (applied plan x (event code arg) .refusal) refusal and go (applied plan x (event code arg) .next) es rs
 
 -- the float that is n / 2 ^ 18
 abbrev pub over-2^18 : ℕ → Float

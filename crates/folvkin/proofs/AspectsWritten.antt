@@ -11,18 +11,19 @@ use lib.Pow.{shr-shr}
 use lib.ListN.{length, take, drop, set, getD, length-append, length-drop, drop-of-length-le}
 use lib.Seq.{drop-cons, set-at, take-at, drop-at, drop-drop}
 use borrow.Author.Tests.{lt-ltb, le-ltb, le-leb, lt-leb}
-use Rattle.sections.specs.Words.{if_then_else_}
-use Rattle.sections.specs.Sections.{_∈_, one-down}
+use Rattle.words.specs.Words.{if_then_else_}
+use Rattle.sections.specs.Sections.{_belongs-to_, one-down}
 use Rattle.block.specs.Line.{isPlan, is-section, direction-of, section-of}
 use Rattle.block.specs.declared.line.Plan.{Plan}
 use Rattle.block.specs.declared.line.Direction.{Direction}
 use Rattle.block.specs.declared.line.Direction.the-variants.{TowardsA, TowardsB}
-use Rattle.block.specs.declared.situation.Situation.{Situation}
+use Rattle.block.specs.Situation.{Kept}
 use Rattle.records.proofs.Forms.{part-from}
-use Rattle.signals.specs.Aspects.{aspect, aspect-at, not-red}
+use Rattle.signals.specs.Aspects.{code, shows, is-open, aspect}
 use Rattle.signals.specs.SignalSets.{those, is-green, shown}
 use Rattle.signals.specs.declared.lights.Lights.{Lights}
-use Rattle.signals.proofs.LitLaws.{Sized, sized, shown-is}
+use Rattle.signals.proofs.LitLaws.{Sized, sized}
+use Rattle.signals.proofs.TwoSignals.{shown-is}
 use Rattle.folvkin.specs.Block.{signal-at, first-shown, first-aspects}
 
 -- ---- one direction
@@ -59,7 +60,7 @@ lights a b = record { «open» = a; green = b }
 pub moved : (m i : ℕ) {n : ℕ} → n ≡ m / 2 ^ i → one-down n ≡ m / 2 ^ (i + 1)
 moved m i e = ap (λ (a : ℕ). a / 2 ^ 1) e ∙ shr-shr m i 1
 
-at-bottom : (m j : ℕ) → (0 ∈ (m / 2 ^ j)) ≡ (j ∈ m)
+at-bottom : (m j : ℕ) → (0 belongs-to (m / 2 ^ j)) ≡ (j belongs-to m)
 at-bottom m j =
     let same : j + 0 ≡ j = omega arith in
     ap (λ (a : ℕ). eqb (a % 2) 1) (shr-shr m j 0 ∙ ap (λ (i : ℕ). m / 2 ^ i) same)
@@ -67,15 +68,15 @@ at-bottom m j =
 pub bottom-shown : (l : Lights) (j : ℕ) {a b : ℕ} → a ≡ l .open / 2 ^ j → b ≡ l .green / 2 ^ j → shown (lights a b) 0 ≡ shown l j
 bottom-shown l j e f =
     ap₂ {C = ℕ} (λ (v w : Bool). if v then (if w then 2 else 1) else 0)
-    (ap (λ (m : ℕ). 0 ∈ m) e ∙ at-bottom (l .open) j) (ap (λ (m : ℕ). 0 ∈ m) f ∙ at-bottom (l .green) j)
+    (ap (λ (m : ℕ). 0 belongs-to m) e ∙ at-bottom (l .open) j) (ap (λ (m : ℕ). 0 belongs-to m) f ∙ at-bottom (l .green) j)
 
 pub not-moved : (m : ℕ) → m ≡ m / 2 ^ 0
 not-moved m = sym (div-one m)
 
 -- ---- both directions, one after the other
-module _ (p : Plan) (x : Situation) (plan : isPlan p ≡ true) where
+module _ (p : Plan) (x : Kept) (plan : isPlan p ≡ true) where
   abbrev pub Shows : Direction → Lights → Type 0
-  Shows d l = those p (not-red p x d) (l .open) × those p (is-green p x d) (l .green)
+  Shows d l = those p (is-open p x d) (l .open) × those p (is-green p x d) (l .green)
 
   -- the signal over section i + 1 towards B, and towards A
   to-B : (b : Lights) → Shows TowardsB b → (i : ℕ) → i < p .sections → shown b (i + 1) ≡ aspect p x (signal-at (p .sections) i)
@@ -84,7 +85,8 @@ module _ (p : Plan) (x : Situation) (plan : isPlan p ≡ true) where
       let here : is-section p (i + 1) ≡ true = rw (le-leb 1 (i + 1) (omega arith), le-leb (i + 1) (p .sections) (omega arith)) in
       let name : i + 1 ≡ 1 + i = omega arith in
       shown-is p x TowardsB b (s .0) (s .1) (i + 1) here
-      ∙ rw (lt-ltb i (p .sections) h, lt-leb 128 (1 + i) (omega arith)) (ap (aspect-at p x TowardsB) name)
+      ∙ sym (ap (λ (v : Bool). if v then code (shows p x TowardsB (i + 1)) else 0) here)
+      ∙ rw (lt-ltb i (p .sections) h, lt-leb 128 (1 + i) (omega arith)) (ap ((λ (k : ℕ). if is-section p k then code (shows p x TowardsB k) else 0)) name)
 
   to-A : (a : Lights) → Shows TowardsA a → (i : ℕ) → i < p .sections → shown a (i + 1) ≡ aspect p x (signal-at (p .sections) (p .sections + i))
   to-A a s i h =
@@ -92,7 +94,8 @@ module _ (p : Plan) (x : Situation) (plan : isPlan p ≡ true) where
       let here : is-section p (i + 1) ≡ true = rw (le-leb 1 (i + 1) (omega arith), le-leb (i + 1) (p .sections) (omega arith)) in
       let name : i + 1 ≡ 129 + (p .sections + i - p .sections) - 128 = omega arith in
       shown-is p x TowardsA a (s .0) (s .1) (i + 1) here
-      ∙ rw (le-ltb (p .sections + i) (p .sections) (omega arith), le-leb 128 (129 + (p .sections + i - p .sections)) (omega arith)) (ap (aspect-at p x TowardsA) name)
+      ∙ sym (ap (λ (v : Bool). if v then code (shows p x TowardsA (i + 1)) else 0) here)
+      ∙ rw (le-ltb (p .sections + i) (p .sections) (omega arith), le-leb 128 (129 + (p .sections + i - p .sections)) (omega arith)) (ap ((λ (k : ℕ). if is-section p k then code (shows p x TowardsA k) else 0)) name)
 
   first-half : (b : Lights) → Shows TowardsB b → (i : ℕ) → i ≤ p .sections → first-shown b i ≡ first-aspects p x i
   unfolding first-shown first-aspects

@@ -4,7 +4,7 @@ use mathlib.Core.List.{List}
 use native.Mathlib.Omega.{arith}
 use lib.Dec.{T, eqb, leb, eqb→eq}
 use lib.ListN.{length, take, length-take}
-use Rattle.sections.proofs.Tests.{if-case}
+use Rattle.words.proofs.Tests.{if-case}
 use Rattle.keylaws.specs.Continuation.{isContinuation}
 use Rattle.keylaws.specs.Parts.{partAfter}
 use Rattle.keylaws.proofs.KeyIsBounded.{part-few as few}

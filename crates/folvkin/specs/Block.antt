@@ -4,11 +4,11 @@ use mathlib.Core.Bool.{Bool}
 use mathlib.Core.List.{List, [], _∷_, _++_}
 use lib.Dec.{eqb, leb, ltb}
 use lib.ListN.{length, drop}
-use Rattle.sections.specs.Words.{_and_, if_then_else_}
+use Rattle.words.specs.Words.{_and_, if_then_else_}
 use Rattle.block.specs.Judged.{judged}
 use Rattle.block.specs.declared.line.Plan.{Plan}
-use Rattle.block.specs.declared.situation.Situation.{Situation}
-use Rattle.events.specs.Apply.{applied}
+use Rattle.block.specs.Situation.{Kept}
+use Rattle.block.specs.Apply.{event, applied}
 use Rattle.signals.specs.Aspects.{aspect}
 use Rattle.signals.specs.SignalSets.{shown}
 use Rattle.signals.specs.declared.lights.Lights.{Lights}
@@ -29,11 +29,11 @@ module _ (n b : ℕ) (si : List ℕ) where
 
   -- "an accepted event rewrites si, a refused one changes no byte"
   abbrev pub event-refusal : ℕ → ℕ → ℕ
-  event-refusal code argument = of-body si (applied (plan-of n b) (situation-of si) code argument .refusal)
+  event-refusal code argument = of-body si (applied (plan-of n b) (situation-of si) (event code argument) .refusal)
 
   abbrev pub si-after : ℕ → ℕ → List ℕ
   si-after code argument =
-      if eqb (event-refusal code argument) 0 then situation-bytes (applied (plan-of n b) (situation-of si) code argument .next) else si
+      if eqb (event-refusal code argument) 0 then situation-bytes (applied (plan-of n b) (situation-of si) (event code argument) .next) else si
 
   -- refusal + 256 * value
   abbrev pub packed : Told → ℕ
@@ -47,7 +47,7 @@ abbrev pub signal-at : ℕ → ℕ → ℕ
 signal-at n i = if ltb i n then 1 + i else 129 + (i - n)
 
 -- the aspects of the first of them
-unfoldable pub first-aspects : Plan → Situation → ℕ → List ℕ
+unfoldable pub first-aspects : Plan → Kept → ℕ → List ℕ
 first-aspects p x zero = []
 first-aspects p x (suc i) = first-aspects p x i ++ (aspect p x (signal-at (p .sections) i) ∷ [])
 

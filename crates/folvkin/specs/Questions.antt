@@ -2,13 +2,10 @@
 use Prim.Native.Nat.{ℕ, _+_, _*_}
 use mathlib.Core.Bool.{Bool}
 use mathlib.Core.List.{List}
-use Rattle.sections.specs.Words.{if_then_else_}
+use Rattle.words.specs.Words.{flag}
 use Rattle.paper.specs.Read.{readOf}
 use Rattle.keys.specs.Calls.{Fetch, fetched, ran}
 use Rattle.keys.specs.declared.Ran.{Ran}
-
-abbrev pub flag : Bool → ℕ
-flag v = if v then 1 else 0
 
 -- "refusal + 256 * more + 65536 * count"
 abbrev pub packed-part : Fetch → ℕ

@@ -6,8 +6,9 @@ ghost use mathlib.Core.List.{_++_};
 ghost use lib.ListN.{length, drop};
 ghost use Rattle.block.specs.Judged.{plan-judged};
 ghost use Rattle.block.specs.Line.{isPlan};
-ghost use Rattle.packed.specs.Packed.{unpacked};
+ghost use Rattle.situation.specs.Packed.{unpacked};
 ghost use Rattle.folvkin.specs.Block.{plan-of, situation-refusal, event-refusal, si-after, reading-packed, first-shown, first-aspects, aspects-refusal, aspects-room};
+use block::event::Event;
 use block::line::Direction;
 use block::line::Plan;
 use block::line::plan_judged;
@@ -16,14 +17,13 @@ use block::refused::SHORT_ROOM;
 use bodies::body_of;
 use bodies::situation_in;
 use events::apply;
-use judging::judged;
-use packed::situation::Situation;
 use sections::one_down;
 use signals::lights::Lights;
-use signals::lights::green;
-use signals::lights::not_red;
+use signals::lights::all_lights;
 use signals::lights::shown;
 use signals::readings::reading;
+use situation::Situation;
+use soundness::judged;
 
 #[no_mangle]
 pub extern "C" fn folvkin_plan(n: u8, b: u8) -> u8
@@ -64,7 +64,7 @@ pub extern "C" fn folvkin_event(n: u8, b: u8, si: &mut [u8], code: u8, argument:
             frontier: b,
         };
         let x = situation_in(si);
-        let o = apply(plan, x, code, argument);
+        let o = apply(plan, x, Event { code, argument });
         let refusal = o.refusal;
         if refusal == 0 {
             let next = o.next;
@@ -118,18 +118,8 @@ fn show(plan: Plan, x: Situation, room: &mut [u8])
     ensures { λ _. ⌜ now (room .exit) ≡ first-aspects plan (unpacked x) (plan .sections + plan .sections) ++ drop (plan .sections + plan .sections) (now (room .entry)) ⌝ }
 {
     let n = plan.sections;
-    let open = not_red(plan, x, Direction::TowardsB);
-    let green_b = green(plan, x, Direction::TowardsB, open);
-    let to_b = Lights {
-        open,
-        green: green_b,
-    };
-    let open = not_red(plan, x, Direction::TowardsA);
-    let green_a = green(plan, x, Direction::TowardsA, open);
-    let to_a = Lights {
-        open,
-        green: green_a,
-    };
+    let to_b = all_lights(plan, x, Direction::TowardsB);
+    let to_a = all_lights(plan, x, Direction::TowardsA);
     show_direction(to_b, n, room);
     let at = n as usize;
     show_direction(to_a, n, &mut room[at..]);

@@ -1,21 +1,13 @@
 // Questions, their keys in parts, and candidates' slots.
 ghost use mathlib.Core.Path.{_≡_};
-ghost use Prim.Native.Nat.{_+_, _*_, _≤_};
+ghost use Prim.Native.Nat.{_+_, _*_};
 ghost use Rattle.keys.specs.Calls.{left-by, fetched};
 ghost use Rattle.paper.specs.Read.{readOf};
-ghost use Rattle.folvkin.specs.Questions.{flag, question-refusal, key-packed, key-room, run-packed};
+ghost use Rattle.folvkin.specs.Questions.{question-refusal, key-packed, key-room, run-packed};
 use keys::key;
 use keys::run;
 use paper::refusal::question_refusal;
-
-fn flag(v: bool) -> u8
-    ensures { λ r. ⌜ (r ≡ flag v) × (r ≤ 1) ⌝ }
-{
-    if v {
-        return 1;
-    }
-    0
-}
+use words::flag;
 
 #[no_mangle]
 pub extern "C" fn folvkin_question(bytes: &[u8]) -> u8

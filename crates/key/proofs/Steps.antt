@@ -7,7 +7,7 @@ use native.Mathlib.Omega.{arith}
 use lib.ListN.{length, take, drop, length-take}
 use lib.Dec.{eqb}
 use borrow.Author.Tests.{eqb-true, eq-eqb}
-use Rattle.sections.specs.Words.{if_then_else_}
+use Rattle.words.specs.Words.{if_then_else_}
 use Rattle.keylaws.specs.Rules.{Word}
 use Rattle.keylaws.specs.Continuation.{fromStart, isContinuation, answersAfter}
 use Rattle.keylaws.specs.Parts.{Part, handed, partAfter, lastSlot}

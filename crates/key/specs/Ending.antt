@@ -1,7 +1,7 @@
 -- What the key program prints last.
 use lib.ListN.{length}
 use lib.Dec.{eqb}
-use Rattle.sections.specs.Words.{if_then_else_}
+use Rattle.words.specs.Words.{if_then_else_}
 use Rattle.paper.specs.Read.{Read}
 use Rattle.keys.specs.Key.{key-of}
 use Rattle.key.specs.declared.Ending.{Ending}

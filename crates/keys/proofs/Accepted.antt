@@ -7,14 +7,16 @@ use mathlib.Core.List.{List, [], _∷_}
 use native.Mathlib.Omega.{arith}
 use lib.ListN.{length, take, drop, getD, length-drop}
 use lib.Seq.{length-take-le}
+use Rattle.words.proofs.Tests.{holds-is}
+use Rattle.block.specs.Line.{isPlan}
 use Rattle.block.specs.declared.line.Plan.{Plan}
-use Rattle.events.specs.Apply.{known, argument-right}
+use Rattle.block.specs.Apply.{event, known, argument-right}
 use Rattle.records.specs.Situation.{situation-of}
 use Rattle.rules.specs.Judged.{all-right}
 use Rattle.listing.specs.Refusal.{_unless_, event-refusal, events-refusal}
 use Rattle.listing.proofs.RightLists.{or-else-none, unless-none}
 use Rattle.paper.specs.Question.{Question, events-of, readings-of}
-use Rattle.paper.proofs.AcceptedQuestions.{events-counted, readings-counted, length-at-most-5, lists, read-is-accepted}
+use Rattle.paper.proofs.AcceptedQuestions.{plan-is-one, events-counted, readings-counted, length-at-most-5, lists, read-is-accepted}
 use Rattle.paper.proofs.AcceptedLayout.{AcceptedLayout, accepted-layout}
 use Rattle.keys.specs.Key.{Accepted, question-in, Bounded, rules}
 
@@ -24,9 +26,9 @@ unfolding events-refusal event-refusal all-right
 right-events p [] h = refl
 right-events p (code ∷ []) h = refl
 right-events p (code ∷ arg ∷ rest) h =
-    let a = or-else-none (event-refusal p code arg) _ h in
-    let b = or-else-none (3 unless known code) (4 unless argument-right p code arg) (a .0) in
-    rw (unless-none 2 (known code) (b .0), unless-none 3 (argument-right p code arg) (b .1)) (right-events p rest (a .1))
+    let a = or-else-none (event-refusal p (event code arg)) _ h in
+    let b = or-else-none (3 unless known (event code arg)) (4 unless argument-right p (event code arg)) (a .0) in
+    rw (unless-none 2 (known (event code arg)) (b .0), unless-none 3 (argument-right p (event code arg)) (b .1)) (right-events p rest (a .1))
 
 module _ (bytes : List ℕ) (ok : Accepted bytes) where
   abbrev q : Question
@@ -89,5 +91,5 @@ module _ (bytes : List ℕ) (ok : Accepted bytes) where
     pub at-most-24 : length events-part ≤ 24
     at-most-24 = omega (arith, ap length events-there, events-length, bounded .0)
 
-    pub right-there : (plan : Plan) → plan ≡ q .plan → all-right plan events-part ≡ true
-    right-there plan p = rw (p, events-there) right
+    pub right-there : (plan : Plan) → plan ≡ q .plan → (all-right plan events-part ≡ true) × (isPlan plan ≡ true)
+    right-there plan p = (rw (p, events-there) right, ap isPlan p ∙ holds-is (isPlan (q .plan)) (plan-is-one q (read-is-accepted bytes ok)))

@@ -7,7 +7,7 @@ use mathlib.Core.List.{List, [], _∷_, _++_, map}
 use native.Mathlib.Omega.{arith}
 use lib.ListN.{length, getD}
 use borrow.Author.Tests.{le-leb}
-use Rattle.sections.specs.Words.{if_then_else_}
+use Rattle.words.specs.Words.{if_then_else_}
 use Rattle.keylaws.specs.Rules.{Word}
 use Rattle.keylaws.specs.Key.{Answer, _among_}
 use Rattle.keylaws.specs.Order.{before}

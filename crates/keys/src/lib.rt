@@ -1,7 +1,7 @@
 // Keys of questions: fetched in parts, and candidates' slots run, where the question's bytes lie.
 ghost use mathlib.Core.Path.{_≡_};
 ghost use mathlib.Core.Bool.{true, false};
-ghost use Prim.Native.Nat.{_+_, _*_, _<_};
+ghost use Prim.Native.Nat.{_+_, _*_};
 ghost use lib.ListN.{length};
 ghost use Rattle.keylaws.specs.Slots.{wordOf, isSlot};
 ghost use Rattle.keylaws.specs.Continuation.{isContinuation};
@@ -24,6 +24,7 @@ use slots::form::SLOT;
 use slots::form::is_continuation;
 use slots::form::is_slot;
 use slots::room::Part;
+use words::wide;
 
 // Where an accepted question has them: the body of SI, how many events it lists, and the events. EV is followed by RD, whose readings come after
 // three bytes, and RD by LN, the last three bytes.
@@ -59,12 +60,6 @@ fn nothing(refusal: u8) -> Fetched
         more: false,
         count: 0,
     }
-}
-
-fn wide(byte: u8) -> usize
-    ensures { λ r. ⌜ (r ≡ byte) × (r < 256) ⌝ }
-{
-    byte as usize
 }
 
 fn six(x: &[u8]) -> [u8; 6]

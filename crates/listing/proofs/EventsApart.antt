@@ -9,8 +9,8 @@ use borrow.Author.Tests.{eqb-true, eqb-false, not-true}
 use lib.ListN.{length, drop, getD, set, length-set}
 use lib.Seq.{getD-set-same, getD-set-other}
 use lib.Dec.{eqb}
-use Rattle.sections.specs.Words.{_and_, _or_}
-use Rattle.sections.specs.Sections.{_∈_, _with-section_}
+use Rattle.words.specs.Words.{_and_, _or_}
+use Rattle.sections.specs.Sections.{_belongs-to_, _with-section_}
 use Rattle.sections.proofs.SetLaws.{has-with-same, has-with-other}
 use Rattle.records.proofs.Forms.{both}
 use Rattle.listing.specs.Refusal.{listed, listed-twice}
@@ -32,7 +32,7 @@ unfoldable pub added : List ℕ → ℕ → ℕ → List ℕ
 added seen code arg = set seen (word code) (getD seen (word code) 0 with-section bit code arg)
 
 unfoldable pub has-bit : List ℕ → ℕ → ℕ → Bool
-has-bit seen code arg = bit code arg ∈ getD seen (word code) 0
+has-bit seen code arg = bit code arg belongs-to getD seen (word code) 0
 
 -- no event has a bit that the words have or that an event before it has
 unfoldable pub all-fresh : List ℕ → List ℕ → Bool
@@ -55,7 +55,7 @@ fresh-end seen (c ∷ []) h = refl
 fresh-end seen (c ∷ a ∷ rest) h = absurd (omega arith)
 
 -- w and k: the event's word and bit
-pub one-added : (seen t : List ℕ) (w k : ℕ) → w ≡ word (getD t 0 0) → k ≡ bit (getD t 0 0) (getD t 1 0) → 2 ≤ length t → (k ∈ getD seen w 0) ≡ false
+pub one-added : (seen t : List ℕ) (w k : ℕ) → w ≡ word (getD t 0 0) → k ≡ bit (getD t 0 0) (getD t 1 0) → 2 ≤ length t → (k belongs-to getD seen w 0) ≡ false
     → all-fresh (set seen w (getD seen w 0 with-section k)) (drop 2 t) ≡ all-fresh seen t
 unfolding added has-bit
 one-added seen t w k e f h off =
@@ -71,14 +71,14 @@ module _ (seen : List ℕ) (long : length seen ≡ 4) where
   just-added : (c a : ℕ) → has-bit (added seen c a) c a ≡ true
   unfolding added has-bit
   just-added c a =
-      ap (λ (m : ℕ). bit c a ∈ m) (getD-set-same seen (word c) (getD seen (word c) 0 with-section bit c a) 0 (omega (arith, word-small c)))
+      ap (λ (m : ℕ). bit c a belongs-to m) (getD-set-same seen (word c) (getD seen (word c) 0 with-section bit c a) 0 (omega (arith, word-small c)))
       ∙ has-with-same (getD seen (word c) 0) (bit c a) (omega (arith, bit-small c a))
 
   -- another bit added to the same word, or a bit to another word
-  in-word : (m j k : ℕ) → k < 32 → (j ∈ m) ≡ true → (j ∈ (m with-section k)) ≡ true
+  in-word : (m j k : ℕ) → k < 32 → (j belongs-to m) ≡ true → (j belongs-to (m with-section k)) ≡ true
   in-word m j k s h = go (eqb k j) refl
     where
-      go : (v : Bool) → eqb k j ≡ v → (j ∈ (m with-section k)) ≡ true
+      go : (v : Bool) → eqb k j ≡ v → (j belongs-to (m with-section k)) ≡ true
       go true e = rw (← eqb-true k j e) (has-with-same m k (omega (arith, s)))
       go false e = has-with-other m k j (omega (arith, s)) (eqb-false k j e) ∙ h
 
@@ -89,7 +89,7 @@ module _ (seen : List ℕ) (long : length seen ≡ 4) where
       more : ℕ
       more = getD seen (word d) 0 with-section bit d b
 
-      go : (v : Bool) → eqb (word d) (word c) ≡ v → (bit c a ∈ getD (set seen (word d) more) (word c) 0) ≡ true
+      go : (v : Bool) → eqb (word d) (word c) ≡ v → (bit c a belongs-to getD (set seen (word d) more) (word c) 0) ≡ true
       go true e =
           let w = eqb-true (word d) (word c) e in
           rw (← w, getD-set-same seen (word d) more 0 (omega (arith, word-small d)))

@@ -7,10 +7,10 @@ use native.Mathlib.Omega.{arith}
 use borrow.Author.Tests.{leb-true, ne-eqb}
 use lib.ListN.{length, getD}
 use lib.Dec.{T, leb}
-use Rattle.sections.specs.Words.{_and_}
-use Rattle.sections.proofs.Tests.{is-holds}
+use Rattle.words.specs.Words.{_and_}
+use Rattle.words.proofs.Tests.{is-holds}
 use Rattle.block.specs.declared.line.Plan.{Plan}
-use Rattle.events.specs.Apply.{known, argument-right}
+use Rattle.block.specs.Apply.{event, known, argument-right}
 use Rattle.signals.specs.Readings.{reading-in-range}
 use Rattle.records.proofs.Forms.{both}
 use Rattle.listing.specs.Refusal.{_unless_, _or-else_, event-refusal, events-refusal, listed-twice, readings-in-range, lists-refusal}
@@ -25,22 +25,22 @@ unless-none n true h = refl
 unless-none n false h = absurd (omega arith)
 
 -- ---- item by item
-event-right : (p : Plan) (code arg : ℕ) → event-refusal p code arg ≡ 0 → T (known code) × T (argument-right p code arg)
+event-right : (p : Plan) (code arg : ℕ) → event-refusal p (event code arg) ≡ 0 → T (known (event code arg)) × T (argument-right p (event code arg))
 unfolding event-refusal
 event-right p code arg h =
-    let a = or-else-none (3 unless known code) (4 unless argument-right p code arg) h in
-    (is-holds _ (unless-none 2 (known code) (a .0)), is-holds _ (unless-none 3 (argument-right p code arg) (a .1)))
+    let a = or-else-none (3 unless known (event code arg)) (4 unless argument-right p (event code arg)) h in
+    (is-holds _ (unless-none 2 (known (event code arg)) (a .0)), is-holds _ (unless-none 3 (argument-right p (event code arg)) (a .1)))
 
 pub each-event : (p : Plan) (events : List ℕ) (i : ℕ) → 2 * i + 1 < length events → events-refusal p events ≡ 0
-    → T (known (getD events (2 * i) 0)) × T (argument-right p (getD events (2 * i) 0) (getD events (2 * i + 1) 0))
+    → T (known (event (getD events (2 * i) 0) (getD events (2 * i + 1) 0))) × T (argument-right p (event (getD events (2 * i) 0) (getD events (2 * i + 1) 0)))
 unfolding events-refusal
 each-event p [] i l h = absurd (omega arith)
 each-event p (code ∷ []) i l h = absurd (omega arith)
-each-event p (code ∷ arg ∷ rest) zero l h = event-right p code arg (or-else-none (event-refusal p code arg) _ h .0)
+each-event p (code ∷ arg ∷ rest) zero l h = event-right p code arg (or-else-none (event-refusal p (event code arg)) _ h .0)
 each-event p (code ∷ arg ∷ rest) (suc i) l h =
     let e : 2 * suc i ≡ suc (suc (2 * i)) = omega arith in
     let f : 2 * suc i + 1 ≡ suc (suc (2 * i + 1)) = omega arith in
-    rw (f, e) (each-event p rest i (omega arith) (or-else-none (event-refusal p code arg) _ h .1))
+    rw (f, e) (each-event p rest i (omega arith) (or-else-none (event-refusal p (event code arg)) _ h .1))
 
 pub each-reading : (p : Plan) (readings : List ℕ) (i : ℕ) → 3 * i + 2 < length readings → readings-in-range p readings ≡ true
     → T (reading-in-range p (getD readings (3 * i) 0) (getD readings (3 * i + 1) 0) (getD readings (3 * i + 2) 0))

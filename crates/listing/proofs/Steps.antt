@@ -6,13 +6,14 @@ use mathlib.Core.List.{List, [], _∷_}
 use native.Mathlib.Omega.{arith}
 use lib.ListN.{length, drop, getD}
 use lib.Dec.{eqb}
-use Rattle.sections.specs.Words.{_and_, _or_}
+use Rattle.words.specs.Words.{_and_, _or_}
 use Rattle.block.specs.declared.line.Plan.{Plan}
 use Rattle.signals.specs.Readings.{reading-in-range}
+use Rattle.block.specs.Apply.{event}
 use Rattle.listing.specs.Refusal.{_or-else_, event-refusal, events-refusal, listed, listed-twice, readings-in-range}
 
 module _ (p : Plan) where
-  pub events-step : (t : List ℕ) → 2 ≤ length t → events-refusal p t ≡ event-refusal p (getD t 0 0) (getD t 1 0) or-else events-refusal p (drop 2 t)
+  pub events-step : (t : List ℕ) → 2 ≤ length t → events-refusal p t ≡ event-refusal p (event (getD t 0 0) (getD t 1 0)) or-else events-refusal p (drop 2 t)
   unfolding events-refusal
   events-step [] h = absurd (omega arith)
   events-step (c ∷ []) h = absurd (omega arith)

@@ -1,12 +1,13 @@
--- The refusal of a question's lists. "Order: .. 3, 4, 21": "3 unknown code; 4 argument; 21 LN above 5, an event listed twice, a reading out of
+-- The refusal of a question's lists. "Order: .. 3, 4, 21": "3 unknown (event code arg); 4 argument; 21 LN above 5, an event listed twice, a reading out of
 -- range". 0 is accepted.
 use Prim.Native.Nat.{ℕ}
 use mathlib.Core.Bool.{Bool, true, false, not}
 use mathlib.Core.List.{List, [], _∷_}
 use lib.Dec.{eqb, leb}
-use Rattle.sections.specs.Words.{_and_, _or_, if_then_else_}
+use Rattle.words.specs.Words.{_and_, _or_, if_then_else_}
 use Rattle.block.specs.declared.line.Plan.{Plan}
-use Rattle.events.specs.Apply.{known, argument-right}
+use Rattle.block.specs.declared.event.Event.{Event}
+use Rattle.block.specs.Apply.{event, known, argument-right}
 use Rattle.signals.specs.Readings.{reading-in-range}
 
 infix 30 _unless_
@@ -18,14 +19,14 @@ n unless right = if right then 0 else n
 abbrev pub _or-else_ : ℕ → ℕ → ℕ
 r or-else later = if eqb r 0 then later else r
 
--- "Refusals 3 and 4 go event by event." An event is two bytes, code and argument
-unfoldable pub event-refusal : Plan → ℕ → ℕ → ℕ
-event-refusal p code arg = 3 unless known code or-else 4 unless argument-right p code arg
+-- "Refusals 3 and 4 go event by event."
+unfoldable pub event-refusal : Plan → Event → ℕ
+event-refusal p e = 3 unless known e or-else 4 unless argument-right p e
 
 unfoldable pub events-refusal : Plan → List ℕ → ℕ
 events-refusal p [] = 0
 events-refusal p (code ∷ []) = 0
-events-refusal p (code ∷ arg ∷ rest) = event-refusal p code arg or-else events-refusal p rest
+events-refusal p (code ∷ arg ∷ rest) = event-refusal p (event code arg) or-else events-refusal p rest
 
 -- "an event listed twice"
 unfoldable pub listed : ℕ → ℕ → List ℕ → Bool

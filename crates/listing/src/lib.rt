@@ -3,6 +3,7 @@ ghost use mathlib.Core.Path.{_≡_};
 ghost use Prim.Native.Nat.{_+_, _*_, _/_, _%_, _<_};
 ghost use mathlib.Core.Bool.{true, false};
 ghost use Rattle.listing.specs.Refusal.{event-refusal, events-refusal, listed, listed-twice, readings-in-range, lists-refusal};
+use block::event::Event;
 use block::line::Plan;
 use block::refused::ACCEPTED;
 use block::refused::OUT_OF_RANGE;
@@ -10,20 +11,20 @@ use block::refused::UNKNOWN_CODE;
 use block::refused::WRONG_ARGUMENT;
 use events::argument_right;
 use events::known;
-use records::form::wide;
 use sections::has;
 use sections::with_section;
 use signals::readings::reading_in_range;
+use words::wide;
 
 pub const LONGEST: u8 = 5;
 
-fn event_refusal(plan: Plan, code: u8, arg: u8) -> u8
-    ensures { λ r. ⌜ r ≡ event-refusal plan code arg ⌝ }
+fn event_refusal(plan: Plan, event: Event) -> u8
+    ensures { λ r. ⌜ r ≡ event-refusal plan event ⌝ }
 {
-    if !known(code) {
+    if !known(event) {
         return UNKNOWN_CODE;
     }
-    if !argument_right(plan, code, arg) {
+    if !argument_right(plan, event) {
         return WRONG_ARGUMENT;
     }
     ACCEPTED
@@ -34,7 +35,11 @@ fn events_refusal(plan: Plan, events: &[u8]) -> u8
 {
     let mut left = events;
     while 2 <= left.len() {
-        let refusal = event_refusal(plan, left[0], left[1]);
+        let event = Event {
+            code: left[0],
+            argument: left[1],
+        };
+        let refusal = event_refusal(plan, event);
         if refusal != ACCEPTED {
             return refusal;
         }

@@ -8,7 +8,7 @@ use lib.Dec.{T, leb}
 use lib.IntN.{ℤ, pos, natAbs}
 use lib.Ieee.{Float, nan, inf, fin}
 use lib.Ieee.Fits.{down-pos}
-use Rattle.marking.specs.Words.{if_then_else_}
+use Rattle.words.specs.Words.{if_then_else_}
 use Rattle.marking.specs.Exact.{Value, inRange, exactAnswer, exactValue, distance, below, signed, signedError}
 use Rattle.marking.specs.Sheet.{givenOf, marked}
 use Rattle.marking.specs.declared.Answer.{Answer}

@@ -8,7 +8,7 @@ use lib.Dec.{T, leb→le}
 use lib.IntN.{ℤ, pos, negsuc}
 use lib.Ieee.{Float, nan, inf, fin, up, down}
 use lib.Ieee.Fits.{down-pos}
-use Rattle.marking.specs.Words.{if_then_else_}
+use Rattle.words.specs.Words.{if_then_else_}
 use Rattle.marking.specs.Exact.{Value, _÷_, apart, distance, right, exactValue}
 use Rattle.marking.specs.Sheet.{numberVerdict, verdictOf, marked}
 use Rattle.marking.specs.declared.Answer.{Answer}

@@ -10,7 +10,7 @@ use lib.ListN.{drop}
 use lib.IntN.{ℤ, pos, negsuc, natAbs}
 use lib.Ieee.{binary32, ofBits}
 use borrow.Author.Tests.{lt-ltb, le-ltb}
-use Rattle.marking.specs.Words.{if_then_else_}
+use Rattle.words.specs.Words.{if_then_else_}
 use Rattle.marking.specs.Exact.{Value, inRange, exactAnswer, exactValue, distance, below, signedError}
 use Rattle.marking.specs.Sheet.{givenOf, verdictOf, sheetLine, refused, marked}
 use Rattle.marking.specs.Typed.{answerOf, patternOf, word, twos, lineBytes, typedRefusal, typedLine, roomAfter, wordAt, signedWord, verdictRead, errorRead}

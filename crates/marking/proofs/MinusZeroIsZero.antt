@@ -8,7 +8,7 @@ use lib.Dec.{T, leb, eqb}
 use lib.IntN.{ℤ, pos}
 use lib.Ieee.{Float, fin, binary32, ofBits}
 use borrow.Author.Tests.{lt-ltb}
-use Rattle.marking.specs.Words.{if_then_else_}
+use Rattle.words.specs.Words.{if_then_else_}
 use Rattle.marking.specs.Exact.{inRange, exactAnswer, exactValue, distance, below, right, signed, signedError}
 use Rattle.marking.specs.Sheet.{unitAsked, sheetLine, marked}
 use Rattle.marking.specs.Typed.{answerOf, typedLine}

@@ -9,7 +9,7 @@ use lib.Pow.{pow-pos}
 use lib.Ieee.{Float, binary32}
 use lib.Ieee.Scale.{grid}
 use borrow.Author.Tests.{le-leb}
-use Rattle.marking.specs.Words.{if_then_else_}
+use Rattle.words.specs.Words.{if_then_else_}
 use Rattle.marking.specs.Exact.{apart, inRange, exactAnswer, exactValue, right}
 use Rattle.marking.specs.Nearest.{modelValue}
 use Rattle.marking.specs.Sheet.{unitOf, givenOf, unitAsked, numberVerdict, marked}

@@ -8,7 +8,7 @@ use mathlib.Core.Bool.{Bool, true, false, _&&_, _||_}
 use lib.Dec.{T, leb, eqb, leb→le, eqb→eq}
 use lib.Ieee.Fits.{and-l, and-r}
 use borrow.Author.Tests.{eq-eqb, ne-eqb}
-use Rattle.marking.specs.Words.{if_then_else_}
+use Rattle.words.specs.Words.{if_then_else_}
 use Rattle.marking.specs.Exact.{inRange, exactAnswer, _÷_}
 use Rattle.marking.specs.Inner.{Small}
 use Rattle.marking.specs.declared.exact.Fraction.{Fraction}

@@ -9,7 +9,7 @@ use lib.Dec.{eqb}
 use lib.Arith.{mod-mul}
 use lib.Pow.{pow-pos, pow-mono, pow-lt, pow-add, shl-lt, shl-shr}
 use borrow.Author.Tests.{eq-eqb, ne-eqb}
-use Rattle.marking.specs.Words.{if_then_else_}
+use Rattle.words.specs.Words.{if_then_else_}
 use Rattle.marking.specs.Inner.{cutDown, cutUp}
 use Rattle.marking.proofs.Cutting.{up-at, up-past}
 

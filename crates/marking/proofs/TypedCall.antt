@@ -7,7 +7,7 @@ use lib.Dec.{T, leb, ltb, eqb}
 use lib.ListN.{length, drop}
 use lib.Ieee.{Float, inf, Format, prec, emax, low, odd, units, round, isNan}
 use lib.Ieee.Fits.{round-is}
-use Rattle.marking.specs.Words.{if_then_else_}
+use Rattle.words.specs.Words.{if_then_else_}
 use Rattle.marking.specs.Exact.{inRange}
 use Rattle.marking.specs.Typed.{patternOf, lineBytes, typedRefusal, typedLine, roomAfter}
 

@@ -11,7 +11,7 @@ use borrow.Author.Tests.{eq-eqb, ne-eqb}
 use types.Run.{OneOf}
 use denote.Enum.Declared.{tagOf}
 use Rattle.marking.proofs.Answer.{the-type}
-use Rattle.marking.specs.Words.{if_then_else_}
+use Rattle.words.specs.Words.{if_then_else_}
 use Rattle.marking.specs.Exact.{isNumber, exactValue, right, signedError}
 use Rattle.marking.specs.Nearest.{modelValue}
 use Rattle.marking.specs.Sheet.{unitOf, givenOf, unitAsked, numberVerdict, verdictOf, errorAt, lineAt, sheetLine}

@@ -4,7 +4,7 @@ use mathlib.Core.Bool.{Bool, true, false, _&&_, _||_}
 use lib.Dec.{leb, ltb, eqb}
 use lib.IntN.{ℤ, pos, negℤ}
 use lib.Ieee.{Float, nan, inf, fin, up, down}
-use Rattle.marking.specs.Words.{if_then_else_}
+use Rattle.words.specs.Words.{if_then_else_}
 use Rattle.marking.specs.declared.exact.Fraction.{Fraction}
 
 -- "Kind 1: seconds to run D metres (1..20,000) at v km/h (1..200) .. Kind 2: metres run in T seconds (1..10,000) at v .. Tolerance: 0 to 10,000 thousandths."

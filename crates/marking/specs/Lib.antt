@@ -1,5 +1,4 @@
 -- What the contracts of `marking` cite. A reader believes Words, Exact, Nearest, Sheet and Typed, in this order; Inner is for the proofs alone.
-pub mod Words
 pub mod Exact
 pub mod Nearest
 pub mod Sheet

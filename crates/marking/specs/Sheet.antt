@@ -4,7 +4,7 @@ use mathlib.Core.Bool.{false, not}
 use lib.Dec.{leb, eqb}
 use lib.IntN.{ℤ, pos}
 use lib.Ieee.{Float, fin}
-use Rattle.marking.specs.Words.{if_then_else_}
+use Rattle.words.specs.Words.{if_then_else_}
 use Rattle.marking.specs.Exact.{inRange, exactAnswer, isNumber, exactValue, right, signedError}
 use Rattle.marking.specs.Nearest.{modelValue}
 use Rattle.marking.specs.declared.Answer.{Answer}

@@ -6,7 +6,7 @@ use lib.Dec.{leb, ltb, eqb}
 use lib.IntN.{ℤ, pos, negsuc}
 use lib.ListN.{length, drop, getD}
 use lib.Ieee.{Float, binary32, ofBits, toBits}
-use Rattle.marking.specs.Words.{if_then_else_}
+use Rattle.words.specs.Words.{if_then_else_}
 use Rattle.marking.specs.Exact.{inRange}
 use Rattle.marking.specs.Sheet.{marked}
 use Rattle.marking.specs.declared.Answer.{Answer}

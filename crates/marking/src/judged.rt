@@ -5,7 +5,7 @@ ghost use Prim.Native.Nat.{_*_, _^_, _≤_, _<_, min};
 ghost use Rattle.marking.specs.Exact.{signed, distance, below};
 ghost use Rattle.marking.specs.Nearest.{modelValue};
 ghost use Rattle.marking.specs.Sheet.{numberVerdict, lineAt};
-ghost use Rattle.marking.specs.Words.{if_then_else_};
+ghost use Rattle.words.specs.Words.{if_then_else_};
 ghost use Rattle.marking.specs.Inner.{Small, Cuts, valueOf, negativeOf, digitsOf, powerOf};
 use super::Line;
 use super::codes::INFINITE;

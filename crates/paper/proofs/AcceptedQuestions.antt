@@ -10,7 +10,7 @@ use lib.Seq.{getD-take, length-take-le}
 use lib.Dec.{T}
 use Rattle.block.specs.Line.{isPlan}
 use Rattle.block.specs.Sound.{sound}
-use Rattle.events.specs.Apply.{known, argument-right}
+use Rattle.block.specs.Apply.{event, known, argument-right}
 use Rattle.signals.specs.Readings.{reading-in-range}
 use Rattle.records.proofs.ListLaws.{events-are-24, events-are-filled, readings-are-18, readings-are-filled}
 use Rattle.listing.specs.Refusal.{listed-twice}
@@ -45,7 +45,7 @@ module _ (q : Question) (ok : refusalOf q ≡ 0) where
   listed-once = not-true (listed-twice (events-of q)) (lists .once)
 
   pub event-is-right : Shaped q → (place : ℕ) → place < q .events .count
-      → T (known (getD (q .events .bytes) (2 * place) 0)) × T (argument-right (q .plan) (getD (q .events .bytes) (2 * place) 0) (getD (q .events .bytes) (2 * place + 1) 0))
+      → T (known (event (getD (q .events .bytes) (2 * place) 0) (getD (q .events .bytes) (2 * place + 1) 0))) × T (argument-right (q .plan) (event (getD (q .events .bytes) (2 * place) 0) (getD (q .events .bytes) (2 * place + 1) 0)))
   event-is-right shaped place l =
       let n : 2 * q .events .count ≤ length (q .events .bytes) = omega (arith, shaped .events, events-counted) in
       let long = length-take-le (2 * q .events .count) (q .events .bytes) n in

@@ -6,7 +6,7 @@ use mathlib.Core.List.{List}
 use borrow.Author.Tests.{le-leb, lt-leb, eq-eqb, ne-eqb}
 use lib.ListN.{length, take, drop}
 use lib.Dec.{eqb, leb}
-use Rattle.sections.specs.Words.{_and_, if_then_else_}
+use Rattle.words.specs.Words.{_and_, if_then_else_}
 use Rattle.records.specs.Plan.{plan-read}
 use Rattle.records.specs.Situation.{SituationRead, situation-read}
 use Rattle.records.specs.Lists.{events-read, readings-read}

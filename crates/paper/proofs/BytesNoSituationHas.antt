@@ -7,8 +7,8 @@ use mathlib.Core.List.{List}
 use borrow.Author.Tests.{le-leb}
 use lib.ListN.{take, drop}
 use lib.Dec.{T}
-use Rattle.sections.specs.Sections.{_∈_}
-use Rattle.sections.proofs.Tests.{holds-is}
+use Rattle.sections.specs.Sections.{_belongs-to_}
+use Rattle.words.proofs.Tests.{holds-is}
 use Rattle.block.specs.Line.{isPlan}
 use Rattle.block.specs.Sound.{sound}
 use Rattle.records.specs.Situation.{codes-in-range, situation-of, SituationRead}
@@ -44,17 +44,17 @@ module _ (bytes : List ℕ) (form : whole-form bytes ≡ true) (plan : T (isPlan
   pub code-out-of-range-is-2 : codes-in-range body ≡ false → readOf bytes ≡ refused 2
   code-out-of-range-is-2 h = not-sound-is-2 (rw situation-there (λ t. rw (code-out-of-range (lb bytes .plan) body h) at t))
 
-  pub occupied-no-section-is-2 : (k : ℕ) → lb bytes .plan .sections < k → T (k ∈ si bytes .situation .occupied) → readOf bytes ≡ refused 2
+  pub occupied-no-section-is-2 : (k : ℕ) → lb bytes .plan .sections < k → T (k belongs-to si bytes .situation .traffic .track .occupied) → readOf bytes ≡ refused 2
   occupied-no-section-is-2 k l t = not-sound-is-2 (occupied-no-section (lb bytes .plan) (si bytes .situation) k l t)
 
-  pub held-towards-B-no-section-is-2 : (k : ℕ) → lb bytes .plan .sections < k → T (k ∈ si bytes .situation .heldb) → readOf bytes ≡ refused 2
+  pub held-towards-B-no-section-is-2 : (k : ℕ) → lb bytes .plan .sections < k → T (k belongs-to si bytes .situation .signals .held .towardsb) → readOf bytes ≡ refused 2
   held-towards-B-no-section-is-2 k l t = not-sound-is-2 (held-towards-B-no-section (lb bytes .plan) (si bytes .situation) k l t)
 
-  pub held-towards-A-no-section-is-2 : (k : ℕ) → lb bytes .plan .sections < k → T (k ∈ si bytes .situation .helda) → readOf bytes ≡ refused 2
+  pub held-towards-A-no-section-is-2 : (k : ℕ) → lb bytes .plan .sections < k → T (k belongs-to si bytes .situation .signals .held .towardsa) → readOf bytes ≡ refused 2
   held-towards-A-no-section-is-2 k l t = not-sound-is-2 (held-towards-A-no-section (lb bytes .plan) (si bytes .situation) k l t)
 
-  pub held-exit-signal-A-is-2 : T (1 ∈ si bytes .situation .heldb) → readOf bytes ≡ refused 2
+  pub held-exit-signal-A-is-2 : T (1 belongs-to si bytes .situation .signals .held .towardsb) → readOf bytes ≡ refused 2
   held-exit-signal-A-is-2 t = not-sound-is-2 (held-exit-signal-A (lb bytes .plan) (si bytes .situation) t)
 
-  pub held-exit-signal-B-is-2 : T (lb bytes .plan .sections ∈ si bytes .situation .helda) → readOf bytes ≡ refused 2
+  pub held-exit-signal-B-is-2 : T (lb bytes .plan .sections belongs-to si bytes .situation .signals .held .towardsa) → readOf bytes ≡ refused 2
   held-exit-signal-B-is-2 t = not-sound-is-2 (held-exit-signal-B (lb bytes .plan) (si bytes .situation) t)

@@ -7,7 +7,7 @@ use native.Mathlib.Omega.{arith}
 use borrow.Author.Tests.{le-leb, lt-ltb, le-ltb, eqb-true}
 use lib.ListN.{length, take, drop, getD, length-drop}
 use lib.Dec.{eqb}
-use Rattle.sections.specs.Words.{if_then_else_}
+use Rattle.words.specs.Words.{if_then_else_}
 use Rattle.block.specs.Judged.{judged}
 use Rattle.block.specs.declared.line.Plan.{Plan}
 use Rattle.records.specs.Form.{stands, counted, filled}

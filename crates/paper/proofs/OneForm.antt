@@ -6,7 +6,7 @@ use mathlib.Core.Bool.{Bool, true, false}
 use mathlib.Core.List.{List, _++_, append-nil}
 use lib.ListN.{take, drop}
 use lib.Seq.{getD-drop}
-use Rattle.sections.proofs.Tests.{holds-is}
+use Rattle.words.proofs.Tests.{holds-is}
 use Rattle.block.specs.Sound.{sound}
 use Rattle.records.specs.Form.{stands, Bytes}
 use Rattle.records.specs.Plan.{plan-written}

@@ -6,7 +6,7 @@ use mathlib.Core.Bool.{Bool, true, false}
 use mathlib.Core.List.{List}
 use lib.ListN.{length, drop}
 use lib.Dec.{eqb}
-use Rattle.sections.specs.Words.{if_then_else_}
+use Rattle.words.specs.Words.{if_then_else_}
 use Rattle.records.specs.Form.{stands}
 use Rattle.records.specs.Plan.{plan-read}
 use Rattle.records.specs.Situation.{SI, SituationRead}

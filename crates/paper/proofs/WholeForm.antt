@@ -7,7 +7,7 @@ use native.Mathlib.Omega.{arith}
 use borrow.Author.Tests.{leb-true, eqb-true, ne-eqb}
 use lib.ListN.{length}
 use lib.Dec.{eqb, leb}
-use Rattle.sections.specs.Words.{_and_, if_then_else_}
+use Rattle.words.specs.Words.{_and_, if_then_else_}
 use Rattle.records.proofs.Forms.{both}
 use Rattle.paper.specs.Question.{Question}
 use Rattle.paper.specs.Refusal.{refusalOf}

@@ -5,8 +5,8 @@ use mathlib.Core.Path.{_≡_}
 use mathlib.Core.List.{List, _++_}
 use lib.ListN.{length, take}
 use Rattle.block.specs.declared.line.Plan.{Plan}
-use Rattle.block.specs.declared.situation.Situation.{Situation}
-use Rattle.packed.specs.Packed.{unpacked}
+use Rattle.block.specs.Situation.{Situation}
+use Rattle.situation.specs.Packed.{unpacked}
 use Rattle.records.specs.Plan.{plan-written}
 use Rattle.records.specs.Situation.{situation-written}
 use Rattle.records.specs.Lists.{events-written, events-filled, readings-written, readings-filled}

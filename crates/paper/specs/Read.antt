@@ -4,9 +4,8 @@ use mathlib.Core.Bool.{Bool, false}
 use mathlib.Core.List.{List}
 use lib.ListN.{length, drop}
 use lib.Dec.{eqb, leb}
-use Rattle.sections.specs.Words.{_and_, if_then_else_}
-use Rattle.sections.specs.Sections as sections
-use Rattle.block.specs.Situation.{blank, nobody}
+use Rattle.words.specs.Words.{_and_, if_then_else_}
+use Rattle.block.specs.Situation.{fresh, withLink}
 use Rattle.records.specs.Plan.{plan-of, plan-read}
 use Rattle.records.specs.Situation.{SituationRead, situation-read}
 use Rattle.records.specs.Lists.{no-events, no-readings, events-read, readings-read}
@@ -82,7 +81,7 @@ told r = record { refusal = r .refusal; question = asked (r .question) }
 abbrev pub zeros : Question
 zeros = record {
   plan = plan-of 0 0;
-  situation = record { link = false; own = blank; other = blank; pending = nobody; occupied = sections.none; heldb = sections.none; helda = sections.none };
+  situation = withLink false fresh;
   events = no-events;
   readings = no-readings;
   length = 0;

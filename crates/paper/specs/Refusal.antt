@@ -3,7 +3,7 @@
 use Prim.Native.Nat.{ℕ}
 use mathlib.Core.Bool.{Bool}
 use lib.Dec.{leb}
-use Rattle.sections.specs.Words.{_and_}
+use Rattle.words.specs.Words.{_and_}
 use Rattle.block.specs.Judged.{judged}
 use Rattle.listing.specs.Refusal.{_unless_, _or-else_, lists-refusal}
 use Rattle.paper.specs.Question.{Question, events-of, readings-of}

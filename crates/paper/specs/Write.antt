@@ -3,7 +3,7 @@ use Prim.Native.Nat.{ℕ}
 use mathlib.Core.List.{List, _++_}
 use lib.ListN.{length, drop}
 use lib.Dec.{eqb, leb}
-use Rattle.sections.specs.Words.{if_then_else_}
+use Rattle.words.specs.Words.{if_then_else_}
 use Rattle.listing.specs.Refusal.{_unless_, _or-else_}
 use Rattle.paper.specs.Question.{Question, written}
 use Rattle.paper.specs.Refusal.{refusalOf}

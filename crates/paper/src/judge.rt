@@ -9,13 +9,13 @@ use super::question::Question;
 use block::line::Plan;
 use block::refused::ACCEPTED;
 use block::refused::NO_FORM;
-use judging::judged;
 use listing::lists_refusal;
-use records::form::wide;
 use records::lists::Events;
 use records::lists::MOST_EVENTS;
 use records::lists::MOST_READINGS;
 use records::lists::Readings;
+use soundness::judged;
+use words::wide;
 
 fn counts_in_range(events: u8, readings: u8) -> bool
     ensures { λ r. ⌜ r ≡ counts-in-range events readings ⌝ }

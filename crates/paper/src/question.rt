@@ -1,8 +1,8 @@
 // A question, as values.
 use block::line::Plan;
-use packed::situation::Situation;
 use records::lists::Events;
 use records::lists::Readings;
+use situation::Situation;
 
 // The permitted events, the readings that an answer must lead to, and how many events an answer may have.
 pub struct Question {

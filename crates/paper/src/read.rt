@@ -7,13 +7,14 @@ use super::refusal::question_refusal;
 use block::line::Plan;
 use block::refused::ACCEPTED;
 use bodies::situation_in;
-use packed::situation::Situation;
 use records::length::read_length;
 use records::lists::Events;
 use records::lists::Readings;
 use records::lists::read_events;
 use records::lists::read_readings;
 use records::plan::read_plan;
+use situation::Signals;
+use situation::Situation;
 
 // The question and 0, or the refusal and zeros.
 pub struct Read {
@@ -28,10 +29,11 @@ fn zeros() -> Question
         sections: 0,
         frontier: 0,
     };
+    let signals = Signals { heldb: 0, helda: 0 };
     let situation = Situation {
-        line: 0,
-        own: 0,
-        other: 0,
+        flags: 0,
+        occupied: 0,
+        signals,
     };
     let events = Events {
         count: 0,

@@ -8,7 +8,6 @@ use block::line::Plan;
 use block::refused::ACCEPTED;
 use block::refused::NO_FORM;
 use bodies::situation_in;
-use judging::judged;
 use listing::lists_refusal;
 use records::form::counted;
 use records::form::stands;
@@ -18,7 +17,8 @@ use records::lists::MOST_EVENTS;
 use records::lists::MOST_READINGS;
 use records::lists::RD;
 use records::plan::LB;
-use records::situation::SI;
+use records::si::SI;
+use soundness::judged;
 
 // What the records of a whole form give: 1, 2, then what its lists give.
 fn body_refusal(plan: Plan, si: &[u8], events: &[u8], readings: &[u8], length: u8) -> u8

@@ -3,7 +3,7 @@ ghost use mathlib.Core.Path.{_≡_};
 ghost use mathlib.Core.List.{[], _∷_, _++_};
 ghost use Prim.Native.Nat.{_+_, _≤_};
 ghost use lib.ListN.{length};
-ghost use Rattle.packed.specs.Packed.{unpacked};
+ghost use Rattle.situation.specs.Packed.{unpacked};
 ghost use Rattle.records.specs.Plan.{plan-written};
 ghost use Rattle.records.specs.Situation.{situation-written};
 ghost use Rattle.records.specs.Lists.{events-written, readings-written};
@@ -16,16 +16,16 @@ use block::line::Plan;
 use block::refused::ACCEPTED;
 use block::refused::SHORT_ROOM;
 use bodies::body_of;
-use packed::situation::Situation;
 use records::form::Mark;
-use records::form::wide;
 use records::length::LN;
 use records::lists::EV;
 use records::lists::Events;
 use records::lists::RD;
 use records::lists::Readings;
 use records::plan::LB;
-use records::situation::SI;
+use records::si::SI;
+use situation::Situation;
+use words::wide;
 
 // How many bytes were written, or the refusal and 0.
 pub struct Written {

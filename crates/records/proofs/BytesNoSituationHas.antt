@@ -10,13 +10,13 @@ use borrow.Author.Tests.{eqb-true}
 use lib.Dec.{T, T-not, eqb}
 use lib.ListN.{length}
 use lib.Pow.{pow-pos}
-use Rattle.sections.specs.Words.{_and_, if_then_else_}
-use Rattle.sections.specs.Sections.{_∈_, sections-up-to}
+use Rattle.words.specs.Words.{_and_, if_then_else_}
+use Rattle.sections.specs.Sections.{_belongs-to_, sections-up-to}
 use Rattle.sections.proofs.SetLaws.{nothing-over}
-use Rattle.sections.proofs.Tests.{and-at, holds-is}
+use Rattle.words.proofs.Tests.{and-at, holds-is}
 use Rattle.block.specs.Sound.{sound}
 use Rattle.block.specs.declared.line.Plan.{Plan}
-use Rattle.block.specs.declared.situation.Situation.{Situation}
+use Rattle.block.specs.Situation.{Situation}
 use Rattle.records.proofs.SoundParts.{sound-sets}
 use Rattle.records.specs.Situation.{codes-in-range, no-situation, situation-of, sections-of}
 
@@ -30,14 +30,14 @@ unfolding situation-of
 code-out-of-range p body h = rw (h, refused-either-way (eqb (length body) 19) _)
 
 -- the bit j of a field of two bytes, low byte first, is that of section j + 1
-pub bit-names-section : (low high j : ℕ) → (suc j ∈ sections-of low high) ≡ eqb ((low + 256 * high) / 2 ^ j % 2) 1
+pub bit-names-section : (low high j : ℕ) → (suc j belongs-to sections-of low high) ≡ eqb ((low + 256 * high) / 2 ^ j % 2) 1
 bit-names-section low high j =
     rw (pow-succ' 2 j, mul-div-mul-left {m = 2} (low + 256 * high) (2 ^ j) (omega arith))
 
 -- a bit that names no section
-beyond : (n m k : ℕ) → n < k → T (sections-up-to n m) → T (k ∈ m) → ⊥
+beyond : (n m k : ℕ) → n < k → T (sections-up-to n m) → T (k belongs-to m) → ⊥
 beyond n m k l h t =
-    let a = and-at (not (0 ∈ m)) (eqb (m / 2 ^ (n + 1)) 0) h in
+    let a = and-at (not (0 belongs-to m)) (eqb (m / 2 ^ (n + 1)) 0) h in
     let e = eqb-true (m / 2 ^ (n + 1)) 0 (holds-is _ (a .1)) in
     let b : m < 1 * 2 ^ (n + 1) = div-lt-iff-lt-mul {k = 2 ^ (n + 1)} {x = m} {y = 1} (pow-pos (n + 1)) .0 (omega arith) in
     let o : m / 2 ^ k ≡ 0 = nothing-over m (n + 1) k (omega arith) (omega arith) in
@@ -45,18 +45,18 @@ beyond n m k l h t =
     omega (arith, o, i)
 
 module _ (p : Plan) (x : Situation) where
-  pub occupied-no-section : (k : ℕ) → p .sections < k → T (k ∈ x .occupied) → T (sound p x) → ⊥
-  occupied-no-section k l t h = beyond (p .sections) (x .occupied) k l (sound-sets p x h .occupied) t
+  pub occupied-no-section : (k : ℕ) → p .sections < k → T (k belongs-to x .traffic .track .occupied) → T (sound p x) → ⊥
+  occupied-no-section k l t h = beyond (p .sections) (x .traffic .track .occupied) k l (sound-sets p x h .occupied) t
 
-  pub held-towards-B-no-section : (k : ℕ) → p .sections < k → T (k ∈ x .heldb) → T (sound p x) → ⊥
-  held-towards-B-no-section k l t h = beyond (p .sections) (x .heldb) k l (sound-sets p x h .heldb) t
+  pub held-towards-B-no-section : (k : ℕ) → p .sections < k → T (k belongs-to x .signals .held .towardsb) → T (sound p x) → ⊥
+  held-towards-B-no-section k l t h = beyond (p .sections) (x .signals .held .towardsb) k l (sound-sets p x h .heldb) t
 
-  pub held-towards-A-no-section : (k : ℕ) → p .sections < k → T (k ∈ x .helda) → T (sound p x) → ⊥
-  held-towards-A-no-section k l t h = beyond (p .sections) (x .helda) k l (sound-sets p x h .helda) t
+  pub held-towards-A-no-section : (k : ℕ) → p .sections < k → T (k belongs-to x .signals .held .towardsa) → T (sound p x) → ⊥
+  held-towards-A-no-section k l t h = beyond (p .sections) (x .signals .held .towardsa) k l (sound-sets p x h .helda) t
 
   -- a bit that names an exit signal: 1, and 128 + n
-  pub held-exit-signal-A : T (1 ∈ x .heldb) → T (sound p x) → ⊥
-  held-exit-signal-A t h = T-not (1 ∈ x .heldb) (sound-sets p x h .no-exit-A) t
+  pub held-exit-signal-A : T (1 belongs-to x .signals .held .towardsb) → T (sound p x) → ⊥
+  held-exit-signal-A t h = T-not (1 belongs-to x .signals .held .towardsb) (sound-sets p x h .no-exit-A) t
 
-  pub held-exit-signal-B : T (p .sections ∈ x .helda) → T (sound p x) → ⊥
-  held-exit-signal-B t h = T-not (p .sections ∈ x .helda) (sound-sets p x h .no-exit-B) t
+  pub held-exit-signal-B : T (p .sections belongs-to x .signals .held .towardsa) → T (sound p x) → ⊥
+  held-exit-signal-B t h = T-not (p .sections belongs-to x .signals .held .towardsa) (sound-sets p x h .no-exit-B) t

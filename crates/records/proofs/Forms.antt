@@ -9,9 +9,8 @@ use borrow.Author.Tests.{leb-true, eqb-true}
 use lib.ListN.{length, take, drop, getD, length-drop}
 use lib.Seq.{take-all}
 use lib.Dec.{eqb, leb}
-use Rattle.sections.specs.Words.{_and_}
+use Rattle.words.specs.Words.{_and_, flag}
 use Rattle.records.specs.Form.{stands, counted}
-use Rattle.records.specs.Situation.{flag}
 use Rattle.records.specs.declared.form.Mark.{Mark}
 
 pub both : (a b : Bool) → a and b ≡ true → (a ≡ true) × (b ≡ true)

@@ -7,7 +7,7 @@ use native.Mathlib.Omega.{arith}
 use borrow.Author.Tests.{le-leb, eq-eqb}
 use lib.ListN.{length, drop, getD, length-append, List·getD-append}
 use lib.Seq.{drop-cons}
-use Rattle.sections.specs.Words.{if_then_else_}
+use Rattle.words.specs.Words.{if_then_else_}
 use Rattle.records.specs.Form.{marked, stands}
 use Rattle.records.specs.declared.form.Mark.{Mark}
 use Rattle.records.proofs.Forms.{stands-first, stands-second, stands-long}

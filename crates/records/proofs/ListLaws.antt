@@ -9,7 +9,7 @@ use borrow.Author.Tests.{leb-true, ltb-false, le-leb, le-ltb}
 use lib.ListN.{length, take, drop, getD, replicate, length-append, length-drop, length-replicate, take-append-drop, List·getD-append}
 use lib.Seq.{take-at, drop-drop, length-take-le}
 use lib.Dec.{leb, ltb}
-use Rattle.sections.specs.Words.{_and_, if_then_else_}
+use Rattle.words.specs.Words.{_and_, if_then_else_}
 use Rattle.records.specs.Form.{marked, stands, counted, list-written, filled}
 use Rattle.records.specs.Lists.{EV, RD, events-written, events-read, events-filled, readings-written, readings-read, readings-filled}
 use Rattle.records.specs.declared.form.Mark.{Mark}

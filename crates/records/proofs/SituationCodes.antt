@@ -5,9 +5,9 @@ use mathlib.Core.Bool.{Bool, true, false, not}
 use native.Mathlib.Omega.{arith}
 use borrow.Author.Tests.{leb-true}
 use lib.Dec.{eqb, leb}
-use Rattle.sections.specs.Words.{_and_}
+use Rattle.words.specs.Words.{_and_, flag}
 use Rattle.block.specs.Codes.{code}
-use Rattle.records.specs.Situation.{flag, bits, bit-of-A, bit-of-B, first-byte, second-byte, sections-of}
+use Rattle.records.specs.Situation.{bits, bit-of-A, bit-of-B, first-byte, second-byte, sections-of}
 
 -- ---- in range
 pub flag-in-range : (v : Bool) → leb (flag v) 1 ≡ true

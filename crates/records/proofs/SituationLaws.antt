@@ -11,7 +11,7 @@ use lib.Dec.{T, leb}
 use Rattle.block.specs.Line.{isPlan}
 use Rattle.block.specs.Sound.{sound}
 use Rattle.block.specs.declared.line.Plan.{Plan}
-use Rattle.block.specs.declared.situation.Situation.{Situation}
+use Rattle.block.specs.Situation.{Situation}
 use Rattle.records.specs.Form.{stands, Bytes}
 use Rattle.records.specs.Situation.{SI, situation-bytes, situation-written, codes-in-range, decoded, situation-of, SituationRead, situation-read}
 use Rattle.records.proofs.Forms.{both, stands-long}
@@ -24,32 +24,32 @@ decoded-back : (x : Situation) → Encodable x → decoded (situation-bytes x) �
 unfolding decoded situation-bytes
 decoded-back x k =
     rw (
-      flag-back (x .link),
-      flag-back (x .own .entry),
-      flag-back (x .other .entry),
-      code-first (x .own .orientation .out) (x .own .orientation .inward),
-      code-second (x .own .orientation .out) (x .own .orientation .inward) (k .own .0),
-      code-first (x .other .orientation .out) (x .other .orientation .inward),
-      code-second (x .other .orientation .out) (x .other .orientation .inward) (k .other .0),
-      code-first (x .own .annulment .afbli) (x .own .annulment .afble),
-      code-second (x .own .annulment .afbli) (x .own .annulment .afble) (k .own .1),
-      code-first (x .other .annulment .afbli) (x .other .annulment .afble),
-      code-second (x .other .annulment .afbli) (x .other .annulment .afble) (k .other .1),
-      code-first (x .own .exit .normal) (x .own .exit .special),
-      code-second (x .own .exit .normal) (x .own .exit .special) (k .own .2),
-      code-first (x .other .exit .normal) (x .other .exit .special),
-      code-second (x .other .exit .normal) (x .other .exit .special) (k .other .2),
-      code-first (x .pending .own) (x .pending .other),
-      code-second (x .pending .own) (x .pending .other) (k .pending),
-      bits-A (x .own .bilc) (x .other .bilc),
-      bits-B (x .own .bilc) (x .other .bilc),
-      bits-A (x .own .bslg) (x .other .bslg),
-      bits-B (x .own .bslg) (x .other .bslg),
-      bits-A (x .own .reminder) (x .other .reminder),
-      bits-B (x .own .reminder) (x .other .reminder),
-      sections-back (x .occupied) (k .occupied .0) (k .occupied .1),
-      sections-back (x .heldb) (k .heldb .0) (k .heldb .1),
-      sections-back (x .helda) (k .helda .0) (k .helda .1),
+      flag-back (x .traffic .link),
+      flag-back (x .traffic .own .entry),
+      flag-back (x .traffic .other .entry),
+      code-first (x .traffic .own .orientation .out) (x .traffic .own .orientation .inward),
+      code-second (x .traffic .own .orientation .out) (x .traffic .own .orientation .inward) (k .own .0),
+      code-first (x .traffic .other .orientation .out) (x .traffic .other .orientation .inward),
+      code-second (x .traffic .other .orientation .out) (x .traffic .other .orientation .inward) (k .other .0),
+      code-first (x .traffic .own .annulment .afbli) (x .traffic .own .annulment .afble),
+      code-second (x .traffic .own .annulment .afbli) (x .traffic .own .annulment .afble) (k .own .1),
+      code-first (x .traffic .other .annulment .afbli) (x .traffic .other .annulment .afble),
+      code-second (x .traffic .other .annulment .afbli) (x .traffic .other .annulment .afble) (k .other .1),
+      code-first (x .traffic .own .exit .normal) (x .traffic .own .exit .special),
+      code-second (x .traffic .own .exit .normal) (x .traffic .own .exit .special) (k .own .2),
+      code-first (x .traffic .other .exit .normal) (x .traffic .other .exit .special),
+      code-second (x .traffic .other .exit .normal) (x .traffic .other .exit .special) (k .other .2),
+      code-first (x .traffic .pending .own) (x .traffic .pending .other),
+      code-second (x .traffic .pending .own) (x .traffic .pending .other) (k .pending),
+      bits-A (x .traffic .own .bilc) (x .traffic .other .bilc),
+      bits-B (x .traffic .own .bilc) (x .traffic .other .bilc),
+      bits-A (x .traffic .own .bslg) (x .traffic .other .bslg),
+      bits-B (x .traffic .own .bslg) (x .traffic .other .bslg),
+      bits-A (x .traffic .own .reminder) (x .traffic .other .reminder),
+      bits-B (x .traffic .own .reminder) (x .traffic .other .reminder),
+      sections-back (x .traffic .track .occupied) (k .occupied .0) (k .occupied .1),
+      sections-back (x .signals .held .towardsb) (k .heldb .0) (k .heldb .1),
+      sections-back (x .signals .held .towardsa) (k .helda .0) (k .helda .1),
     )
 
 written-in-range : (x : Situation) → codes-in-range (situation-bytes x) ≡ true

@@ -2,7 +2,7 @@
 use Prim.Native.Nat.{ℕ}
 use mathlib.Core.List.{List, [], _∷_}
 use lib.ListN.{getD}
-use Rattle.sections.specs.Words.{if_then_else_}
+use Rattle.words.specs.Words.{if_then_else_}
 use Rattle.records.specs.Form.{marked, stands}
 use Rattle.records.specs.declared.form.Mark.{Mark}
 use Rattle.records.specs.declared.length.LengthRead.{LengthRead}

@@ -3,7 +3,7 @@ use Prim.Native.Nat.{ℕ, _-_, _*_}
 use mathlib.Core.List.{List}
 use lib.ListN.{take, drop, getD, replicate}
 use lib.Dec.{ltb}
-use Rattle.sections.specs.Words.{if_then_else_}
+use Rattle.words.specs.Words.{if_then_else_}
 use Rattle.records.specs.Form.{list-written, counted, filled}
 use Rattle.records.specs.declared.form.Mark.{Mark}
 use Rattle.records.specs.declared.lists.Events.{Events}

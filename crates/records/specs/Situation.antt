@@ -5,16 +5,13 @@ use mathlib.Core.Bool.{Bool, true, false}
 use mathlib.Core.List.{List, [], _∷_}
 use lib.ListN.{length, take, drop, getD}
 use lib.Dec.{eqb, leb}
-use Rattle.sections.specs.Words.{_and_, if_then_else_}
-use Rattle.sections.specs.Sections as sections
-use Rattle.block.specs.Situation.{blank}
+use Rattle.words.specs.Words.{_and_, if_then_else_, flag}
+use Rattle.block.specs.Situation.{Station, Kept, fresh, withLink, withPending}
 use Rattle.block.specs.Codes.{orientation-code, annulment-code, route-code, pending-code}
-use Rattle.block.specs.declared.situation.Orientation.{Orientation}
-use Rattle.block.specs.declared.situation.Annulment.{Annulment}
-use Rattle.block.specs.declared.situation.Route.{Route}
-use Rattle.block.specs.declared.situation.Pending.{Pending}
-use Rattle.block.specs.declared.situation.Station.{Station}
-use Rattle.block.specs.declared.situation.Situation.{Situation}
+use Rattle.block.specs.declared.codes.Orientation.{Orientation}
+use Rattle.block.specs.declared.codes.Annulment.{Annulment}
+use Rattle.block.specs.declared.codes.Route.{Route}
+use Rattle.block.specs.declared.codes.Pending.{Pending}
 use Rattle.records.specs.Form.{marked, stands}
 use Rattle.records.specs.declared.form.Mark.{Mark}
 
@@ -22,9 +19,6 @@ abbrev pub SI : Mark
 SI = record { first = 83; second = 73 }
 
 -- ---- written
-abbrev pub flag : Bool → ℕ
-flag v = if v then 1 else 0
-
 -- "as bits (1 A, 2 B)"
 abbrev pub bits : Bool → Bool → ℕ
 bits a b = flag a + 2 * flag b
@@ -36,22 +30,22 @@ first-byte m = m / 2 % 256
 abbrev pub second-byte : ℕ → ℕ
 second-byte m = m / 2 / 256 % 256
 
-unfoldable pub situation-bytes : Situation → List ℕ
+unfoldable pub situation-bytes : Kept → List ℕ
 situation-bytes x =
-    flag (x .link)
-    ∷ orientation-code (x .own .orientation) ∷ orientation-code (x .other .orientation)
-    ∷ annulment-code (x .own .annulment) ∷ annulment-code (x .other .annulment)
-    ∷ route-code (x .own .exit) ∷ route-code (x .other .exit)
-    ∷ flag (x .own .entry) ∷ flag (x .other .entry)
-    ∷ pending-code (x .pending)
-    ∷ bits (x .own .bilc) (x .other .bilc)
-    ∷ bits (x .own .bslg) (x .other .bslg)
-    ∷ bits (x .own .reminder) (x .other .reminder)
-    ∷ first-byte (x .occupied) ∷ second-byte (x .occupied)
-    ∷ first-byte (x .heldb) ∷ second-byte (x .heldb)
-    ∷ first-byte (x .helda) ∷ second-byte (x .helda) ∷ []
+    flag (x .traffic .link)
+    ∷ orientation-code (x .traffic .own .orientation) ∷ orientation-code (x .traffic .other .orientation)
+    ∷ annulment-code (x .traffic .own .annulment) ∷ annulment-code (x .traffic .other .annulment)
+    ∷ route-code (x .traffic .own .exit) ∷ route-code (x .traffic .other .exit)
+    ∷ flag (x .traffic .own .entry) ∷ flag (x .traffic .other .entry)
+    ∷ pending-code (x .traffic .pending)
+    ∷ bits (x .traffic .own .bilc) (x .traffic .other .bilc)
+    ∷ bits (x .traffic .own .bslg) (x .traffic .other .bslg)
+    ∷ bits (x .traffic .own .reminder) (x .traffic .other .reminder)
+    ∷ first-byte (x .traffic .track .occupied) ∷ second-byte (x .traffic .track .occupied)
+    ∷ first-byte (x .signals .held .towardsb) ∷ second-byte (x .signals .held .towardsb)
+    ∷ first-byte (x .signals .held .towardsa) ∷ second-byte (x .signals .held .towardsa) ∷ []
 
-abbrev pub situation-written : Situation → List ℕ
+abbrev pub situation-written : Kept → List ℕ
 situation-written x = marked SI (situation-bytes x)
 
 -- ---- read
@@ -131,35 +125,28 @@ module _ (t : List ℕ) where
     reminder = bit-of-B (getD t 12 0);
   })
 
-  unfoldable pub decoded : Situation
+  unfoldable pub decoded : Kept
   decoded = record {
-    link = eqb (getD t 0 0) 1;
-    own = station-A;
-    other = station-B;
-    pending = pending-of (getD t 9 0);
-    occupied = sections-of (getD t 13 0) (getD t 14 0);
-    heldb = sections-of (getD t 15 0) (getD t 16 0);
-    helda = sections-of (getD t 17 0) (getD t 18 0);
+    traffic = record {
+      link = eqb (getD t 0 0) 1;
+      own = station-A;
+      other = station-B;
+      pending = pending-of (getD t 9 0);
+      track = record { occupied = sections-of (getD t 13 0) (getD t 14 0) };
+    };
+    signals = record { held = record { towardsb = sections-of (getD t 15 0) (getD t 16 0); towardsa = sections-of (getD t 17 0) (getD t 18 0) } };
   }
 
 -- what bytes are read as that no situation has: it is sound in no plan, two SOBB being pending at once
-abbrev pub no-situation : Situation
-no-situation = record {
-  link = false;
-  own = blank;
-  other = blank;
-  pending = record { own = true; other = true };
-  occupied = sections.none;
-  heldb = sections.none;
-  helda = sections.none;
-}
+abbrev pub no-situation : Kept
+no-situation = withPending (record { own = true; other = true }) (withLink false fresh)
 
-unfoldable pub situation-of : List ℕ → Situation
+unfoldable pub situation-of : List ℕ → Kept
 situation-of body = if eqb (length body) 19 and codes-in-range body then decoded body else no-situation
 
 pub record SituationRead : Type 0 where
   pub used : ℕ
-  pub situation : Situation
+  pub situation : Kept
 
 unfoldable pub situation-read : List ℕ → SituationRead
 situation-read s =

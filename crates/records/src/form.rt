@@ -3,17 +3,11 @@ ghost use mathlib.Core.Path.{_≡_};
 ghost use Prim.Native.Nat.{_+_, _*_, _≤_, _<_};
 ghost use lib.ListN.{length};
 ghost use Rattle.records.specs.Form.{stands, counted};
+use words::wide;
 
 pub struct Mark {
     pub first: u8,
     pub second: u8,
-}
-
-// A byte, as a count of bytes.
-pub fn wide(byte: u8) -> usize
-    ensures { λ r. ⌜ (r ≡ byte) × (r < 256) ⌝ }
-{
-    byte as usize
 }
 
 // Whether the mark stands at the front, with at least so many bytes after it.

@@ -3,4 +3,4 @@ pub mod form;
 pub mod length;
 pub mod lists;
 pub mod plan;
-pub mod situation;
+pub mod si;

@@ -1,14 +1,12 @@
 // What refuses each event, own being the station that the event names: "Checks run in the order written; the first that fails
 // gives the refusal."
 ghost use mathlib.Core.Path.{_≡_};
-ghost use mathlib.Core.Bool.{Bool};
-ghost use Rattle.sections.specs.Words.{if_then_else_};
-ghost use Rattle.block.specs.Checks.{refusal};
+ghost use Rattle.words.specs.Words.{if_then_else_};
 ghost use Rattle.refusals.specs.InOrder.{check};
-ghost use Rattle.block.specs.Situation.{line-free};
-ghost use Rattle.packed.specs.Packed.{unpacked};
-ghost use Rattle.block.specs.Events.{sobb, cobb, afbli, afble, dafbl, bilc, bslg, exit-normal, exit-special, exit-released, dilc, bslg-off, reminder, reminder-off, entry, entry-released, link-lost, link-restored, occupied, freed, bslb, bslb-off};
-use block::line::Direction;
+ghost use Rattle.block.specs.Table.{Sobb, Cobb, Afbli, Afble, Dafbl, Bilc, Dilc, Bslg, BslgOff, Bslb, BslbOff, Reminder, ReminderOff, ExitNormal, ExitSpecial, ExitReleased, Entry, EntryReleased, Occupied, Freed, LinkLost, LinkRestored};
+ghost use Rattle.block.specs.Apply.{refuses};
+ghost use Rattle.situation.specs.Packed.{unpacked};
+use block::event::Spot;
 use block::refused::ALREADY;
 use block::refused::ANNULLED;
 use block::refused::BILC;
@@ -19,18 +17,8 @@ use block::refused::NOT_FREE;
 use block::refused::ORIENTED;
 use block::refused::PENDING;
 use block::refused::REMINDER;
-use packed::marks::annulled;
-use packed::marks::asks;
-use packed::marks::bilc;
-use packed::marks::bslg;
-use packed::marks::entry;
-use packed::marks::is_in;
-use packed::marks::is_out;
-use packed::marks::reminder;
-use packed::marks::routed;
-use packed::marks::under_afble;
-use packed::situation::Situation;
 use sections::has;
+use situation::Situation;
 
 // What the checks so far refuse stays refused; else n where this one fails.
 fn check(r: u8, n: u8, failed: bool) -> u8
@@ -52,165 +40,184 @@ fn refuse(n: u8, failed: bool, rest: u8) -> u8
     rest
 }
 
-pub fn sobb_refusal(x: Situation) -> u8
-    ensures { λ r. ⌜ r ≡ refusal (sobb (unpacked x)) ⌝ }
+pub fn sobb_refusal(x: Situation, at: Spot) -> u8
+    ensures { λ r. ⌜ r ≡ refuses Sobb at (unpacked x) ⌝ }
 {
-    let pending = asks(x.own) | asks(x.other);
-    let r = check(0, ANNULLED, annulled(x.own));
+    let own = x.own();
+    let pending = x.asks() | x.other_asks();
+    let routed = x.any_exit_route();
+    let r = check(0, ANNULLED, own.annulled());
     let r = check(r, LINK_DOWN, !x.linked());
     let r = check(r, PENDING, pending);
-    let r = check(r, EXIT_ROUTE, x.exits());
-    check(r, ORIENTED, is_out(x.own))
+    let r = check(r, EXIT_ROUTE, routed);
+    check(r, ORIENTED, own.is_out())
 }
 
-pub fn cobb_refusal(x: Situation) -> u8
-    ensures { λ r. ⌜ r ≡ refusal (cobb (unpacked x)) ⌝ }
+pub fn cobb_refusal(x: Situation, at: Spot) -> u8
+    ensures { λ r. ⌜ r ≡ refuses Cobb at (unpacked x) ⌝ }
 {
-    let r = check(0, ANNULLED, annulled(x.own));
+    let own = x.own();
+    let r = check(0, ANNULLED, own.annulled());
     let r = check(r, LINK_DOWN, !x.linked());
-    let r = check(r, PENDING, !asks(x.other));
-    check(r, EXIT_ROUTE, x.exits())
+    let r = check(r, PENDING, !x.other_asks());
+    check(r, EXIT_ROUTE, x.any_exit_route())
 }
 
-pub fn afbli_refusal(x: Situation) -> u8
-    ensures { λ r. ⌜ r ≡ refusal (afbli (unpacked x)) ⌝ }
+pub fn afbli_refusal(x: Situation, at: Spot) -> u8
+    ensures { λ r. ⌜ r ≡ refuses Afbli at (unpacked x) ⌝ }
 {
-    let r = check(0, ANNULLED, annulled(x.own));
-    let r = check(r, PENDING, asks(x.own));
-    check(r, EXIT_ROUTE, routed(x.own))
+    let own = x.own();
+    let r = check(0, ANNULLED, own.annulled());
+    let r = check(r, PENDING, x.asks());
+    check(r, EXIT_ROUTE, own.routed())
 }
 
-pub fn afble_refusal(x: Situation) -> u8
-    ensures { λ r. ⌜ r ≡ refusal (afble (unpacked x)) ⌝ }
+pub fn afble_refusal(x: Situation, at: Spot) -> u8
+    ensures { λ r. ⌜ r ≡ refuses Afble at (unpacked x) ⌝ }
 {
-    let r = afbli_refusal(x);
-    check(r, ENTRY_ROUTE, entry(x.own))
+    let own = x.own();
+    let r = afbli_refusal(x, at);
+    check(r, ENTRY_ROUTE, own.has_entry())
 }
 
-pub fn dafbl_refusal(x: Situation) -> u8
-    ensures { λ r. ⌜ r ≡ refusal (dafbl (unpacked x)) ⌝ }
+pub fn dafbl_refusal(x: Situation, at: Spot) -> u8
+    ensures { λ r. ⌜ r ≡ refuses Dafbl at (unpacked x) ⌝ }
 {
-    check(0, ALREADY, !annulled(x.own))
+    let own = x.own();
+    refuse(ALREADY, !own.annulled(), 0)
 }
 
-pub fn bilc_refusal(x: Situation) -> u8
-    ensures { λ r. ⌜ r ≡ refusal (bilc (unpacked x)) ⌝ }
+pub fn bilc_refusal(x: Situation, at: Spot) -> u8
+    ensures { λ r. ⌜ r ≡ refuses Bilc at (unpacked x) ⌝ }
 {
-    let r = check(0, ALREADY, bilc(x.own));
-    check(r, EXIT_ROUTE, routed(x.own))
+    let own = x.own();
+    let r = check(0, ALREADY, own.has_bilc());
+    check(r, EXIT_ROUTE, own.routed())
 }
 
-pub fn dilc_refusal(x: Situation) -> u8
-    ensures { λ r. ⌜ r ≡ refusal (dilc (unpacked x)) ⌝ }
+pub fn dilc_refusal(x: Situation, at: Spot) -> u8
+    ensures { λ r. ⌜ r ≡ refuses Dilc at (unpacked x) ⌝ }
 {
-    refuse(ALREADY, !bilc(x.own), 0)
+    let own = x.own();
+    refuse(ALREADY, !own.has_bilc(), 0)
 }
 
-pub fn bslg_refusal(x: Situation) -> u8
-    ensures { λ r. ⌜ r ≡ refusal (bslg (unpacked x)) ⌝ }
+pub fn bslg_refusal(x: Situation, at: Spot) -> u8
+    ensures { λ r. ⌜ r ≡ refuses Bslg at (unpacked x) ⌝ }
 {
-    let r = check(0, ALREADY, bslg(x.own));
-    check(r, ANNULLED, annulled(x.own))
+    let own = x.own();
+    let r = check(0, ALREADY, own.has_bslg());
+    check(r, ANNULLED, own.annulled())
 }
 
-pub fn bslg_off_refusal(x: Situation) -> u8
-    ensures { λ r. ⌜ r ≡ refusal (bslg-off (unpacked x)) ⌝ }
+pub fn bslg_off_refusal(x: Situation, at: Spot) -> u8
+    ensures { λ r. ⌜ r ≡ refuses BslgOff at (unpacked x) ⌝ }
 {
-    refuse(ALREADY, !bslg(x.own), 0)
+    let own = x.own();
+    refuse(ALREADY, !own.has_bslg(), 0)
 }
 
-pub fn bslb_refusal(x: Situation, d: Direction, k: u8) -> u8
-    ensures { λ r. ⌜ r ≡ refusal (bslb (unpacked x) d k) ⌝ }
+pub fn bslb_refusal(x: Situation, at: Spot) -> u8
+    ensures { λ r. ⌜ r ≡ refuses Bslb at (unpacked x) ⌝ }
 {
-    refuse(ALREADY, has(x.held(d), k as u16), 0)
+    let d = at.direction;
+    refuse(ALREADY, has(x.held(d), at.section as u16), 0)
 }
 
-pub fn bslb_off_refusal(x: Situation, d: Direction, k: u8) -> u8
-    ensures { λ r. ⌜ r ≡ refusal (bslb-off (unpacked x) d k) ⌝ }
+pub fn bslb_off_refusal(x: Situation, at: Spot) -> u8
+    ensures { λ r. ⌜ r ≡ refuses BslbOff at (unpacked x) ⌝ }
 {
-    refuse(ALREADY, !has(x.held(d), k as u16), 0)
+    let d = at.direction;
+    refuse(ALREADY, !has(x.held(d), at.section as u16), 0)
 }
 
-pub fn reminder_refusal(x: Situation) -> u8
-    ensures { λ r. ⌜ r ≡ refusal (reminder (unpacked x)) ⌝ }
+pub fn reminder_refusal(x: Situation, at: Spot) -> u8
+    ensures { λ r. ⌜ r ≡ refuses Reminder at (unpacked x) ⌝ }
 {
-    refuse(ALREADY, reminder(x.own), 0)
+    let own = x.own();
+    refuse(ALREADY, own.has_reminder(), 0)
 }
 
-pub fn reminder_off_refusal(x: Situation) -> u8
-    ensures { λ r. ⌜ r ≡ refusal (reminder-off (unpacked x)) ⌝ }
+pub fn reminder_off_refusal(x: Situation, at: Spot) -> u8
+    ensures { λ r. ⌜ r ≡ refuses ReminderOff at (unpacked x) ⌝ }
 {
-    refuse(ALREADY, !reminder(x.own), 0)
+    let own = x.own();
+    refuse(ALREADY, !own.has_reminder(), 0)
 }
 
-pub fn exit_normal_refusal(x: Situation) -> u8
-    ensures { λ r. ⌜ r ≡ refusal (exit-normal (unpacked x) (line-free (unpacked x))) ⌝ }
+pub fn exit_normal_refusal(x: Situation, at: Spot) -> u8
+    ensures { λ r. ⌜ r ≡ refuses ExitNormal at (unpacked x) ⌝ }
 {
-    let none = !(is_out(x.own) | is_in(x.own));
-    let busy = is_in(x.own) & !x.line_free();
-    let r = check(0, ALREADY, routed(x.own));
-    let r = check(r, BILC, bilc(x.own));
-    let r = check(r, ANNULLED, annulled(x.own));
-    let r = check(r, REMINDER, reminder(x.own));
+    let own = x.own();
+    let none = !(own.is_out() | own.is_in());
+    let waits = own.is_in() & !x.line_free();
+    let r = check(0, ALREADY, own.routed());
+    let r = check(r, BILC, own.has_bilc());
+    let r = check(r, ANNULLED, own.annulled());
+    let r = check(r, REMINDER, own.has_reminder());
     let r = check(r, LINK_DOWN, !x.linked());
     let r = check(r, ORIENTED, none);
-    check(r, NOT_FREE, busy)
+    check(r, NOT_FREE, waits)
 }
 
-pub fn exit_special_refusal(x: Situation) -> u8
-    ensures { λ r. ⌜ r ≡ refusal (exit-special (unpacked x) (line-free (unpacked x))) ⌝ }
+pub fn exit_special_refusal(x: Situation, at: Spot) -> u8
+    ensures { λ r. ⌜ r ≡ refuses ExitSpecial at (unpacked x) ⌝ }
 {
-    let none = !(is_out(x.own) | is_in(x.own));
-    let busy = is_in(x.own) & !x.line_free();
-    let r = check(0, ALREADY, routed(x.own));
-    let r = check(r, BILC, bilc(x.own));
-    if under_afble(x.own) {
+    let own = x.own();
+    let none = !(own.is_out() | own.is_in());
+    let waits = own.is_in() & !x.line_free();
+    let r = check(0, ALREADY, own.routed());
+    let r = check(r, BILC, own.has_bilc());
+    if own.under_afble() {
         return r;
     }
-    let r = check(r, ANNULLED, annulled(x.own));
+    let r = check(r, ANNULLED, own.annulled());
     let r = check(r, LINK_DOWN, !x.linked());
     let r = check(r, ORIENTED, none);
-    check(r, NOT_FREE, busy)
+    check(r, NOT_FREE, waits)
 }
 
-pub fn exit_released_refusal(x: Situation) -> u8
-    ensures { λ r. ⌜ r ≡ refusal (exit-released (unpacked x)) ⌝ }
+pub fn exit_released_refusal(x: Situation, at: Spot) -> u8
+    ensures { λ r. ⌜ r ≡ refuses ExitReleased at (unpacked x) ⌝ }
 {
-    check(0, ALREADY, !routed(x.own))
+    let own = x.own();
+    refuse(ALREADY, !own.routed(), 0)
 }
 
-pub fn entry_refusal(x: Situation) -> u8
-    ensures { λ r. ⌜ r ≡ refusal (entry (unpacked x)) ⌝ }
+pub fn entry_refusal(x: Situation, at: Spot) -> u8
+    ensures { λ r. ⌜ r ≡ refuses Entry at (unpacked x) ⌝ }
 {
-    refuse(ALREADY, entry(x.own), 0)
+    let own = x.own();
+    refuse(ALREADY, own.has_entry(), 0)
 }
 
-pub fn entry_released_refusal(x: Situation) -> u8
-    ensures { λ r. ⌜ r ≡ refusal (entry-released (unpacked x)) ⌝ }
+pub fn entry_released_refusal(x: Situation, at: Spot) -> u8
+    ensures { λ r. ⌜ r ≡ refuses EntryReleased at (unpacked x) ⌝ }
 {
-    refuse(ALREADY, !entry(x.own), 0)
+    let own = x.own();
+    refuse(ALREADY, !own.has_entry(), 0)
 }
 
-pub fn occupied_refusal(x: Situation, k: u8) -> u8
-    ensures { λ r. ⌜ ((expected first : Bool) → r ≡ refusal (occupied (unpacked x) (line-free (unpacked x)) k expected first)) ⌝ }
+pub fn occupied_refusal(x: Situation, at: Spot) -> u8
+    ensures { λ r. ⌜ r ≡ refuses Occupied at (unpacked x) ⌝ }
 {
-    refuse(ALREADY, has(x.occupied_sections(), k as u16), 0)
+    refuse(ALREADY, has(x.occupied, at.section as u16), 0)
 }
 
-pub fn freed_refusal(x: Situation, k: u8) -> u8
-    ensures { λ r. ⌜ r ≡ refusal (freed (unpacked x) k) ⌝ }
+pub fn freed_refusal(x: Situation, at: Spot) -> u8
+    ensures { λ r. ⌜ r ≡ refuses Freed at (unpacked x) ⌝ }
 {
-    refuse(ALREADY, !has(x.occupied_sections(), k as u16), 0)
+    refuse(ALREADY, !has(x.occupied, at.section as u16), 0)
 }
 
-pub fn link_lost_refusal(x: Situation) -> u8
-    ensures { λ r. ⌜ r ≡ refusal (link-lost (unpacked x)) ⌝ }
+pub fn link_lost_refusal(x: Situation, at: Spot) -> u8
+    ensures { λ r. ⌜ r ≡ refuses LinkLost at (unpacked x) ⌝ }
 {
     refuse(ALREADY, !x.linked(), 0)
 }
 
-pub fn link_restored_refusal(x: Situation) -> u8
-    ensures { λ r. ⌜ r ≡ refusal (link-restored (unpacked x)) ⌝ }
+pub fn link_restored_refusal(x: Situation, at: Spot) -> u8
+    ensures { λ r. ⌜ r ≡ refuses LinkRestored at (unpacked x) ⌝ }
 {
     refuse(ALREADY, x.linked(), 0)
 }

@@ -1,4 +1,4 @@
--- Of a station's first six marks, the values in which a code is the one asked are just those in which it is: a test that is computed at all
+-- Of a station's first six flags, the values in which a code is the one asked are just those in which it is: a test that is computed at all
 -- 64 of them. Assumes nothing.
 use Prim.Native.Nat.{ℕ, zero, suc, _%_, _<_}
 use mathlib.Core.Path.{_≡_, refl, sym, ap, ap₂, _∙_}
@@ -9,13 +9,13 @@ use native.Mathlib.Omega.{arith}
 use borrow.Author.Tests.{ne-eqb}
 use lib.Dec.{T, eqb}
 use lib.Bits.{and-mask}
-use Rattle.sections.specs.Words.{_and_, if_then_else_}
-use Rattle.sections.specs.Sections.{none, _∈_}
+use Rattle.words.specs.Words.{_and_, if_then_else_}
+use Rattle.sections.specs.Sections.{none, _belongs-to_}
 use Rattle.sections.proofs.SetLaws.{none-has}
 use Rattle.sections.proofs.SetsOfSets.{in-both}
-use Rattle.sections.proofs.Tests.{and-at, and-true, holds-is}
+use Rattle.words.proofs.Tests.{and-at, and-true, holds-is}
 use Rattle.block.specs.Codes.{code, orientation-code, annulment-code, route-code}
-use Rattle.packed.specs.Packed.{station}
+use Rattle.situation.specs.Packed.{flags-of, station-from}
 use Rattle.rules.specs.Wanted.{for-value, where-orientation, where-annulment, where-exit, where-line}
 
 -- ---- a test at each number below n
@@ -41,19 +41,19 @@ alike-is true false t = absurd t
 alike-is false true t = absurd t
 alike-is false false t = refl
 
--- ---- the six marks of a station's word
+-- ---- the six flags of a station's word
 six-below : (m : ℕ) → m % 64 < 64
 six-below m = mod-lt m (omega arith)
 
-six-has : (k m : ℕ) → k < 6 → (k ∈ (m % 64)) ≡ (k ∈ m)
+six-has : (k m : ℕ) → k < 6 → (k belongs-to (m % 64)) ≡ (k belongs-to m)
 six-has k m h =
-    ap (λ (n : ℕ). k ∈ n) (sym (and-mask m 6))
+    ap (λ (n : ℕ). k belongs-to n) (sym (and-mask m 6))
     ∙ in-both k m 63
-    ∙ ap (λ (b : Bool). (k ∈ m) and b) (holds-is (k ∈ 63) (below-at 6 (λ j. j ∈ 63) tt k h))
-    ∙ and-true (k ∈ m)
+    ∙ ap (λ (b : Bool). (k belongs-to m) and b) (holds-is (k belongs-to 63) (below-at 6 (λ j. j belongs-to 63) tt k h))
+    ∙ and-true (k belongs-to m)
 
-pub six-all : (m : ℕ) → ((m % 64) ∈ 0xFFFFFFFFFFFFFFFF) ≡ true
-six-all m = holds-is ((m % 64) ∈ 0xFFFFFFFFFFFFFFFF) (below-at 64 (λ k. k ∈ 0xFFFFFFFFFFFFFFFF) tt (m % 64) (six-below m))
+pub six-all : (m : ℕ) → ((m % 64) belongs-to 0xFFFFFFFFFFFFFFFF) ≡ true
+six-all m = holds-is ((m % 64) belongs-to 0xFFFFFFFFFFFFFFFF) (below-at 64 (λ k. k belongs-to 0xFFFFFFFFFFFFFFFF) tt (m % 64) (six-below m))
 
 -- ---- a set for each value
 pub no-code : (a b c v : ℕ) → (v ≡ 0 → ⊥) → (v ≡ 1 → ⊥) → (v ≡ 2 → ⊥) → for-value a b c v ≡ none
@@ -61,20 +61,20 @@ no-code a b c v p q r = rw (ne-eqb v 0 p, ne-eqb v 1 q, ne-eqb v 2 r)
 
 -- what the sets say of k is whether the number n has the value: computed at the three values, and no other is below 3
 agrees : ℕ → ℕ → ℕ → ℕ → ℕ → Bool
-agrees zeros ones twos k n = all-below 3 (λ v. alike (k ∈ for-value zeros ones twos v) (eqb n v))
+agrees zeros ones twos k n = all-below 3 (λ v. alike (k belongs-to for-value zeros ones twos v) (eqb n v))
 
-by-value : (zeros ones twos k n : ℕ) → n < 3 → T (agrees zeros ones twos k n) → (v : ℕ) → (k ∈ for-value zeros ones twos v) ≡ eqb n v
+by-value : (zeros ones twos k n : ℕ) → n < 3 → T (agrees zeros ones twos k n) → (v : ℕ) → (k belongs-to for-value zeros ones twos v) ≡ eqb n v
 unfolding agrees
 by-value zeros ones twos k n h t v = go (decLt v 3)
   where
-    go : Dec (v < 3) → (k ∈ for-value zeros ones twos v) ≡ eqb n v
-    go (yes l) = alike-is (k ∈ for-value zeros ones twos v) (eqb n v) (below-at 3 (λ u. alike (k ∈ for-value zeros ones twos u) (eqb n u)) t v l)
+    go : Dec (v < 3) → (k belongs-to for-value zeros ones twos v) ≡ eqb n v
+    go (yes l) = alike-is (k belongs-to for-value zeros ones twos v) (eqb n v) (below-at 3 (λ u. alike (k belongs-to for-value zeros ones twos u) (eqb n u)) t v l)
     go (no l) =
-        ap (λ (s : ℕ). k ∈ s) (no-code zeros ones twos v (λ e. omega arith) (λ e. omega arith) (λ e. omega arith))
+        ap (λ (s : ℕ). k belongs-to s) (no-code zeros ones twos v (λ e. omega arith) (λ e. omega arith) (λ e. omega arith))
         ∙ none-has k
         ∙ sym (ne-eqb n v (λ e. omega arith))
 
--- ---- a code, read at the marks i and j
+-- ---- a code, read at the flags i and j
 code-below : (one two : Bool) → code one two < 3
 code-below true two = omega arith
 code-below false true = omega arith
@@ -82,28 +82,28 @@ code-below false false = omega arith
 
 module _ (i j zeros ones twos : ℕ) where
   abbrev agrees-at : ℕ → Bool
-  agrees-at c = agrees zeros ones twos c (code (i ∈ c) (j ∈ c))
+  agrees-at c = agrees zeros ones twos c (code (i belongs-to c) (j belongs-to c))
 
-  in-set : i < 6 → j < 6 → T (all-below 64 agrees-at) → (m v : ℕ) → ((m % 64) ∈ for-value zeros ones twos v) ≡ eqb (code (i ∈ m) (j ∈ m)) v
+  in-set : i < 6 → j < 6 → T (all-below 64 agrees-at) → (m v : ℕ) → ((m % 64) belongs-to for-value zeros ones twos v) ≡ eqb (code (i belongs-to m) (j belongs-to m)) v
   in-set h k t m v =
       let c = m % 64 in
-      by-value zeros ones twos c (code (i ∈ c) (j ∈ c)) (code-below (i ∈ c) (j ∈ c)) (below-at 64 agrees-at t c (six-below m)) v
+      by-value zeros ones twos c (code (i belongs-to c) (j belongs-to c)) (code-below (i belongs-to c) (j belongs-to c)) (below-at 64 agrees-at t c (six-below m)) v
       ∙ ap (λ (n : ℕ). eqb n v) (ap₂ code (six-has i m h) (six-has j m k))
 
-pub in-orientation : (m v : ℕ) → ((m % 64) ∈ where-orientation v) ≡ eqb (orientation-code (station m .orientation)) v
+pub in-orientation : (m v : ℕ) → ((m % 64) belongs-to where-orientation v) ≡ eqb (orientation-code (station-from 0 (flags-of m) .orientation)) v
 unfolding where-orientation agrees
 in-orientation = in-set 0 1 _ _ _ (omega arith) (omega arith) tt
 
-pub in-annulment : (m v : ℕ) → ((m % 64) ∈ where-annulment v) ≡ eqb (annulment-code (station m .annulment)) v
+pub in-annulment : (m v : ℕ) → ((m % 64) belongs-to where-annulment v) ≡ eqb (annulment-code (station-from 0 (flags-of m) .annulment)) v
 unfolding where-annulment agrees
 in-annulment = in-set 2 3 _ _ _ (omega arith) (omega arith) tt
 
-pub in-exit : (m v : ℕ) → ((m % 64) ∈ where-exit v) ≡ eqb (route-code (station m .exit)) v
+pub in-exit : (m v : ℕ) → ((m % 64) belongs-to where-exit v) ≡ eqb (route-code (station-from 0 (flags-of m) .exit)) v
 unfolding where-exit agrees
 in-exit = in-set 4 5 _ _ _ (omega arith) (omega arith) tt
 
 -- ---- the line
-pub in-line : (free : Bool) (v : ℕ) → ((if free then 0 else 1) ∈ where-line v) ≡ eqb (if free then 0 else 1) v
+pub in-line : (free : Bool) (v : ℕ) → ((if free then 0 else 1) belongs-to where-line v) ≡ eqb (if free then 0 else 1) v
 unfolding where-line agrees
 in-line true = by-value 1 2 none 0 0 (omega arith) tt
 in-line false = by-value 1 2 none 1 1 (omega arith) tt

@@ -6,9 +6,9 @@ use mathlib.Core.List.{List, [], _∷_}
 use native.Mathlib.Omega.{arith}
 use lib.ListN.{length, take, drop, getD, length-drop}
 use lib.Seq.{take-all}
-use Rattle.sections.specs.Words.{_and_}
+use Rattle.words.specs.Words.{_and_}
 use Rattle.block.specs.declared.line.Plan.{Plan}
-use Rattle.block.specs.declared.situation.Situation.{Situation}
+use Rattle.block.specs.Situation.{Situation}
 use Rattle.rules.specs.RulesOf.{all-hold}
 use Rattle.rules.specs.Wanted.{with-reading, with-readings, aspect-holds, aspects-hold}
 use Rattle.rules.specs.declared.wanted.Wanted.{Wanted}

@@ -1,6 +1,6 @@
 -- All readings hold exactly in the situations that are what they ask put together, where from the first aspect on the aspects hold.
 -- Assumes nothing.
-use Prim.Native.Nat.{ℕ, suc, _-_, _%_, _≤_}
+use Prim.Native.Nat.{ℕ, _/_, _^_, suc, _-_, _%_, _≤_}
 use mathlib.Core.Path.{_≡_, refl, sym, ap, _∙_}
 use mathlib.Core.Bool.{Bool, true, false}
 use mathlib.Core.List.{List, [], _∷_}
@@ -8,19 +8,20 @@ use native.Mathlib.Omega.{arith}
 use borrow.Author.Tests.{ne-eqb}
 use lib.Dec.{eqb}
 use lib.ListN.{length, drop}
-use Rattle.sections.specs.Words.{_and_, if_then_else_}
-use Rattle.sections.specs.Sections.{_∈_}
+use Rattle.words.specs.Words.{_and_, if_then_else_}
+use Rattle.sections.specs.Sections.{_belongs-to_}
 use Rattle.sections.proofs.SetsOfSets.{in-both}
-use Rattle.sections.proofs.Tests.{and-true}
+use Rattle.words.proofs.Tests.{and-true}
 use Rattle.block.specs.Line.{station-named}
 use Rattle.block.specs.Situation.{line-free, station as Block·station}
 use Rattle.block.specs.Codes.{orientation-code, annulment-code, route-code}
 use Rattle.block.specs.declared.line.Plan.{Plan}
 use Rattle.block.specs.declared.line.Name.the-variants.{StationA, StationB}
-use Rattle.block.specs.declared.situation.Station.{Station}
-use Rattle.block.specs.declared.situation.Situation.{Situation}
-use Rattle.packed.specs.Packed.{station, unpacked}
-use Rattle.packed.specs.declared.situation.Situation.{Situation as Packed}
+use Rattle.block.specs.Situation.{Station}
+use Rattle.block.specs.Situation.{Situation}
+use Rattle.situation.specs.Packed.{flags-of, station-from, unpacked}
+use Rattle.situation.proofs.Exchanged.{others-flags}
+use Rattle.situation.specs.declared.Situation.{Situation as Packed}
 use Rattle.signals.specs.Aspects.{aspect}
 use Rattle.signals.specs.Readings.{value-read, reading-holds}
 use Rattle.rules.specs.RulesOf.{all-hold}
@@ -57,32 +58,32 @@ between false false c = refl
 
 module _ (x : Packed) where
   -- ---- a reading more
-  own-too : (w : Wanted) (marks : ℕ) → as-wanted (with-own marks w) x ≡ (as-wanted w x and ((x .own % 64) ∈ marks))
+  own-too : (w : Wanted) (marks : ℕ) → as-wanted (with-own marks w) x ≡ (as-wanted w x and ((x .flags % 64) belongs-to marks))
   own-too w marks =
-      ap (λ (b : Bool). b and ((x .other % 64) ∈ w .other) and (line-read (unpacked x) ∈ w .line)) (in-both (x .own % 64) (w .own) marks)
-      ∙ first-two ((x .own % 64) ∈ w .own) ((x .own % 64) ∈ marks) ((x .other % 64) ∈ w .other) (line-read (unpacked x) ∈ w .line)
+      ap (λ (b : Bool). b and ((x .flags / 2 ^ 16 % 64) belongs-to w .other) and (line-read (unpacked x) belongs-to w .line)) (in-both (x .flags % 64) (w .own) marks)
+      ∙ first-two ((x .flags % 64) belongs-to w .own) ((x .flags % 64) belongs-to marks) ((x .flags / 2 ^ 16 % 64) belongs-to w .other) (line-read (unpacked x) belongs-to w .line)
 
-  other-too : (w : Wanted) (marks : ℕ) → as-wanted (with-other marks w) x ≡ (as-wanted w x and ((x .other % 64) ∈ marks))
+  other-too : (w : Wanted) (marks : ℕ) → as-wanted (with-other marks w) x ≡ (as-wanted w x and ((x .flags / 2 ^ 16 % 64) belongs-to marks))
   other-too w marks =
-      ap (λ (b : Bool). ((x .own % 64) ∈ w .own) and b and (line-read (unpacked x) ∈ w .line)) (in-both (x .other % 64) (w .other) marks)
-      ∙ second-two ((x .own % 64) ∈ w .own) ((x .other % 64) ∈ w .other) ((x .other % 64) ∈ marks) (line-read (unpacked x) ∈ w .line)
+      ap (λ (b : Bool). ((x .flags % 64) belongs-to w .own) and b and (line-read (unpacked x) belongs-to w .line)) (in-both (x .flags / 2 ^ 16 % 64) (w .other) marks)
+      ∙ second-two ((x .flags % 64) belongs-to w .own) ((x .flags / 2 ^ 16 % 64) belongs-to w .other) ((x .flags / 2 ^ 16 % 64) belongs-to marks) (line-read (unpacked x) belongs-to w .line)
 
   line-too : (w : Wanted) (value : ℕ) → as-wanted (with-line (where-line value) w) x ≡ (as-wanted w x and eqb (line-read (unpacked x)) value)
   line-too w value =
-      let stations = ((x .own % 64) ∈ w .own) and ((x .other % 64) ∈ w .other) in
+      let stations = ((x .flags % 64) belongs-to w .own) and ((x .flags / 2 ^ 16 % 64) belongs-to w .other) in
       let line = line-read (unpacked x) in
       ap (λ (b : Bool). stations and b) (in-both line (w .line) (where-line value))
-      ∙ sym (and-group stations (line ∈ w .line) (line ∈ where-line value))
+      ∙ sym (and-group stations (line belongs-to w .line) (line belongs-to where-line value))
       ∙ ap (λ (b : Bool). as-wanted w x and b) (in-line (line-free (unpacked x)) value)
 
   -- a code of a station, which sets of marks tell
-  module _ (sets : ℕ → ℕ) (code : Station → ℕ) (tell : (m v : ℕ) → ((m % 64) ∈ sets v) ≡ eqb (code (station m)) v) where
+  module _ (sets : ℕ → ℕ) (code : Station → ℕ) (tell : (m v : ℕ) → ((m % 64) belongs-to sets v) ≡ eqb (code (station-from 0 (flags-of m))) v) where
     marks-too : (arg : ℕ) (w : Wanted) (value : ℕ) → as-wanted (with-marks arg (sets value) w) x ≡ (as-wanted w x and eqb (code (Block·station (unpacked x) (station-named arg))) value)
     marks-too arg w value = go (eqb arg 1)
       where
         go : (b : Bool) → as-wanted (if b then with-other (sets value) w else with-own (sets value) w) x ≡ (as-wanted w x and eqb (code (Block·station (unpacked x) (if b then StationB else StationA))) value)
-        go true = other-too w (sets value) ∙ ap (λ (b : Bool). as-wanted w x and b) (tell (x .other) value)
-        go false = own-too w (sets value) ∙ ap (λ (b : Bool). as-wanted w x and b) (tell (x .own) value)
+        go true = other-too w (sets value) ∙ ap (λ (b : Bool). as-wanted w x and b) (tell (x .flags / 2 ^ 16) value ∙ ap (λ (t : Station). eqb (code t) value) (others-flags (x .flags)))
+        go false = own-too w (sets value) ∙ ap (λ (b : Bool). as-wanted w x and b) (tell (x .flags) value)
 
   module _ (p : Plan) where
     -- what is asked together, and the aspects one by one
@@ -121,9 +122,9 @@ module _ (x : Packed) where
 
   -- nothing is asked before the first reading
   anything-is-wanted : as-wanted anything x ≡ true
-  anything-is-wanted = rw (six-all (x .own), six-all (x .other)) (line-any (line-free (unpacked x)))
+  anything-is-wanted = rw (six-all (x .flags), six-all (x .flags / 2 ^ 16)) (line-any (line-free (unpacked x)))
     where
-      line-any : (free : Bool) → ((if free then 0 else 1) ∈ 3) ≡ true
+      line-any : (free : Bool) → ((if free then 0 else 1) belongs-to 3) ≡ true
       line-any true = refl
       line-any false = refl
 

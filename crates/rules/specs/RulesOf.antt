@@ -3,19 +3,23 @@ use Prim.Native.Nat.{ℕ, _+_, _-_, _*_, _/_}
 use mathlib.Core.Bool.{Bool, true}
 use mathlib.Core.List.{List, [], _∷_}
 use lib.ListN.{length, getD}
-use Rattle.sections.specs.Words.{_and_}
+use Rattle.words.specs.Words.{_and_}
 use Rattle.keylaws.specs.Rules.{Rules}
 use Rattle.block.specs.declared.line.Plan.{Plan}
-use Rattle.block.specs.declared.situation.Situation.{Situation}
-use Rattle.events.specs.Apply.{stepped, Outcome}
+use Rattle.block.specs.declared.event.Event.{Event}
+use Rattle.block.specs.Situation.{Kept}
+use Rattle.block.specs.Apply.{event, stepped, Outcome}
 use Rattle.signals.specs.Readings.{reading-holds}
 
--- "An event is two bytes, code and argument": what the event at a place gives, counted from 1
-abbrev pub tried : Plan → List ℕ → Situation → ℕ → Outcome
-tried p events x place = stepped p x (getD events (2 * (place - 1)) 0) (getD events (2 * (place - 1) + 1) 0)
+-- "An event is two bytes, code and argument": the event at a place, counted from 1, and what it gives
+abbrev pub event-at : List ℕ → ℕ → Event
+event-at events place = event (getD events (2 * (place - 1)) 0) (getD events (2 * (place - 1) + 1) 0)
+
+abbrev pub tried : Plan → List ℕ → Kept → ℕ → Outcome
+tried p events x place = stepped p x (event-at events place)
 
 -- "readings of three bytes": kind, argument, value; whether all of them hold
-unfoldable pub all-hold : Plan → List ℕ → Situation → Bool
+unfoldable pub all-hold : Plan → List ℕ → Kept → Bool
 all-hold p [] x = true
 all-hold p (kind ∷ []) x = true
 all-hold p (kind ∷ arg ∷ []) x = true
@@ -24,7 +28,7 @@ all-hold p (kind ∷ arg ∷ value ∷ readings) x = reading-holds p x kind arg 
 abbrev pub rulesOf : Plan → List ℕ → List ℕ → Rules
 rulesOf p events readings =
     record {
-      Situation = Situation;
+      Situation = Kept;
       events = length events / 2;
       refusal = λ x place. tried p events x place .refusal;
       next = λ x place. tried p events x place .next;

@@ -1,17 +1,18 @@
 -- Nothing here has to be believed: what the readings of a question ask, put together before any situation is tried. That all readings hold
 -- exactly where it is met is proved.
-use Prim.Native.Nat.{ℕ, _%_}
+use Prim.Native.Nat.{ℕ, _/_, _%_, _^_}
+use mathlib.Core.Path.{_≡_}
 use mathlib.Core.Bool.{Bool, true}
 use mathlib.Core.List.{List, [], _∷_}
 use lib.ListN.{length}
 use lib.Dec.{eqb}
-use Rattle.sections.specs.Words.{_and_, if_then_else_}
-use Rattle.sections.specs.Sections.{none, _∈_, both}
-use Rattle.block.specs.Situation.{line-free}
+use Rattle.words.specs.Words.{_and_, if_then_else_}
+use Rattle.sections.specs.Sections.{none, _belongs-to_, both}
+use Rattle.block.specs.Situation.{Kept, line-free}
 use Rattle.block.specs.declared.line.Plan.{Plan}
-use Rattle.block.specs.declared.situation.Situation.{Situation}
-use Rattle.packed.specs.Packed.{unpacked}
-use Rattle.packed.specs.declared.situation.Situation.{Situation as Packed}
+use Rattle.block.specs.Line.{isPlan}
+use Rattle.situation.specs.Packed.{unpacked}
+use Rattle.situation.specs.declared.Situation.{Situation as Packed}
 use Rattle.signals.specs.Aspects.{aspect}
 use Rattle.rules.specs.declared.wanted.Wanted.{Wanted}
 
@@ -23,7 +24,7 @@ for-value zeros ones twos value =
     if eqb value 1 then ones else
     if eqb value 2 then twos else none
 
--- the values of six marks, two each of orientation, annulment and exit route, in which the code is this
+-- the values of six flags, two each of orientation, annulment and exit route, in which the code is this
 unfoldable pub where-orientation : ℕ → ℕ
 where-orientation = for-value 0x1111111111111111 0xAAAAAAAAAAAAAAAA 0x4444444444444444
 
@@ -75,18 +76,22 @@ with-readings w (kind ∷ arg ∷ value ∷ readings) = with-readings (with-read
 abbrev pub wanted-of : List ℕ → Wanted
 wanted-of readings = with-readings anything readings
 
+-- the readings are put together, of a question whose plan is judged
+abbrev pub Asked : Plan → Wanted → List ℕ → Type 0
+Asked p w readings = (isPlan p ≡ true) × (w ≡ wanted-of readings)
+
 -- ---- whether a situation is what they ask
-abbrev pub line-read : Situation → ℕ
+abbrev pub line-read : Kept → ℕ
 line-read x = if line-free x then 0 else 1
 
 abbrev pub as-wanted : Wanted → Packed → Bool
-as-wanted w x = (x .own % 64) ∈ w .own and (x .other % 64) ∈ w .other and line-read (unpacked x) ∈ w .line
+as-wanted w x = (x .flags % 64) belongs-to w .own and (x .flags / 2 ^ 16 % 64) belongs-to w .other and line-read (unpacked x) belongs-to w .line
 
 -- a reading, if it is one of an aspect
-abbrev pub aspect-holds : Plan → Situation → ℕ → ℕ → ℕ → Bool
+abbrev pub aspect-holds : Plan → Kept → ℕ → ℕ → ℕ → Bool
 aspect-holds p x kind arg value = if eqb kind 1 then eqb (aspect p x arg) value else true
 
-unfoldable pub aspects-hold : Plan → List ℕ → Situation → Bool
+unfoldable pub aspects-hold : Plan → List ℕ → Kept → Bool
 aspects-hold p [] x = true
 aspects-hold p (kind ∷ []) x = true
 aspects-hold p (kind ∷ arg ∷ []) x = true

@@ -6,15 +6,17 @@ ghost use Rattle.keylaws.specs.Key.{Permitted};
 ghost use Rattle.keylaws.specs.Run.{run};
 ghost use Rattle.rules.specs.RulesOf.{rulesOf};
 ghost use mathlib.Core.Bool.{true};
-ghost use Rattle.packed.specs.Packed.{unpacked};
+ghost use Rattle.situation.specs.Packed.{unpacked};
+ghost use Rattle.block.specs.Line.{isPlan};
 ghost use Rattle.rules.specs.Judged.{all-right};
 ghost use Rattle.rules.specs.Told.{outcome};
-use super::tries::reached_at;
-use super::tries::refusal_at;
+use super::tries::event_at;
 use super::wanted::all_hold;
 use super::wanted::wanted_of;
 use block::line::Plan;
-use packed::situation::Situation;
+use events::next;
+use events::own_refusal;
+use situation::Situation;
 
 // The place of the first refused event within the slot, from 1, and its refusal, or 0, 0 and whether all readings hold.
 pub struct Told {
@@ -32,7 +34,7 @@ pub fn run_places(
     places: &[u8],
 ) -> Told
     requires { ⌜ (length (now places) ≤ 5) × Permitted (length (now events) / 2) (now places) ⌝ }
-    requires { ⌜ all-right plan (now events) ≡ true ⌝ }
+    requires { ⌜ (all-right plan (now events) ≡ true) × (isPlan plan ≡ true) ⌝ }
     ensures { λ r. ⌜ outcome r ≡ run (rulesOf plan (now (events .entry)) (now (readings .entry))) (unpacked start) (now (places .entry)) ⌝ }
 {
     let mut x = start;
@@ -46,7 +48,8 @@ pub fn run_places(
             };
         }
         let place = places[i] as usize;
-        let refusal = refusal_at(plan, x, events, place);
+        let event = event_at(events, place);
+        let refusal = own_refusal(plan, x, event);
         if refusal != 0 {
             break Told {
                 place: (i + 1) as u8,
@@ -54,7 +57,7 @@ pub fn run_places(
                 holds: false,
             };
         }
-        x = reached_at(plan, x, events, place);
+        x = next(plan, x, event);
         i += 1;
     };
     told

@@ -1,20 +1,22 @@
 // The readings of a question, put together once: what they ask of each station's orientation, annulment and exit route, and of the line.
 // Aspects are read in each situation.
 ghost use mathlib.Core.Path.{_≡_};
-ghost use Rattle.packed.specs.Packed.{unpacked};
+ghost use mathlib.Core.Bool.{true};
+ghost use Rattle.block.specs.Line.{isPlan};
+ghost use Rattle.situation.specs.Packed.{unpacked};
 ghost use Rattle.rules.specs.RulesOf.{all-hold};
-ghost use Rattle.rules.specs.Wanted.{where-orientation, where-annulment, where-exit, where-line, with-marks, with-line, with-aspect, with-reading, wanted-of, line-read, as-wanted, aspects-hold};
+ghost use Rattle.rules.specs.Wanted.{where-orientation, where-annulment, where-exit, where-line, with-marks, with-line, with-aspect, with-reading, wanted-of, Asked, line-read, as-wanted, aspects-hold};
 use block::line::Plan;
-use packed::situation::Situation;
 use sections::both;
 use sections::has;
-use signals::aspects::aspect_of;
+use signals::lights::aspect_of;
 use signals::readings::ANNULMENT;
 use signals::readings::ASPECT;
 use signals::readings::EXIT_ROUTE;
 use signals::readings::ORIENTATION;
+use situation::Situation;
 
-// A set for each station: the values of its first six marks (two each of orientation, annulment and exit route) that the readings allow.
+// A set for each station: the values of its first six flags (two each of orientation, annulment and exit route) that the readings allow.
 // The line's: 0 if it may be free, 1 if it may not. How many bytes of readings there are from the first aspect on, 0 if there is none.
 pub struct Wanted {
     pub own: u64,
@@ -30,7 +32,7 @@ const ANYTHING: Wanted = Wanted {
     aspects: 0,
 };
 
-// The values of six marks in which the orientation's code is this.
+// The values of six flags in which the orientation's code is this.
 fn where_orientation(value: u8) -> u64
     ensures { λ r. ⌜ r ≡ where-orientation value ⌝ }
 {
@@ -148,16 +150,17 @@ fn line_read(x: Situation) -> u16
 fn as_wanted(w: Wanted, x: Situation) -> bool
     ensures { λ r. ⌜ r ≡ as-wanted w x ⌝ }
 {
-    if !has(w.own, (x.own % 64) as u16) {
+    if !has(w.own, x.own_codes()) {
         return false;
     }
-    if !has(w.other, (x.other % 64) as u16) {
+    if !has(w.other, x.other_codes()) {
         return false;
     }
     has(w.line, line_read(x))
 }
 
 fn aspects_hold(plan: Plan, x: Situation, readings: &[u8]) -> bool
+    requires { ⌜ isPlan plan ≡ true ⌝ }
     ensures { λ r. ⌜ r ≡ aspects-hold plan (now (readings .entry)) (unpacked x) ⌝ }
 {
     let mut rest = readings;
@@ -174,7 +177,7 @@ fn aspects_hold(plan: Plan, x: Situation, readings: &[u8]) -> bool
 
 // Whether all readings hold, of which w is what they ask.
 pub fn all_hold(plan: Plan, w: Wanted, x: Situation, readings: &[u8]) -> bool
-    requires { ⌜ w ≡ wanted-of (now readings) ⌝ }
+    requires { ⌜ Asked plan w (now readings) ⌝ }
     ensures { λ r. ⌜ r ≡ all-hold plan (now (readings .entry)) (unpacked x) ⌝ }
 {
     if !as_wanted(w, x) {

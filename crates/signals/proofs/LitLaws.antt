@@ -1,25 +1,25 @@
 -- What is in the sets of signals, one section at a time. Assumes nothing.
 use Prim.Native.Nat.{ℕ, zero, suc, _+_, _-_, _≤_, _<_}
-use mathlib.Core.Path.{_≡_, refl, sym, ap, ap₂, _∙_}
+use mathlib.Core.Path.{_≡_, refl, sym, ap, ap₂, subst, _∙_}
 use mathlib.Core.Bool.{Bool, true, false, not}
 use native.Mathlib.Omega.{arith}
 use native.Mathlib.Decide.{decLt, ℕ-discrete}
 use lib.Dec.{T, eqb, leb, ltb, leb→le}
 use borrow.Author.Tests.{ltb-true, leb-true, eq-eqb, ne-eqb, le-leb, lt-leb}
-use Rattle.sections.specs.Words.{_and_, _or_, if_then_else_}
-use Rattle.sections.specs.Sections.{none, _∈_, only, both, either, _minus_, up-to, one-down, one-up}
-use Rattle.sections.proofs.Tests.{and-at, is-holds, holds-is}
+use Rattle.words.specs.Words.{_and_, _or_, if_then_else_}
+use Rattle.sections.specs.Sections.{none, _belongs-to_, only, both, either, _minus_, up-to, one-down, one-up}
+use Rattle.words.proofs.Tests.{and-at, is-holds, holds-is}
+use Rattle.sections.proofs.SetLaws.{none-has}
 use Rattle.sections.proofs.SetsOfSets.{in-both, in-either, in-minus, in-only, in-given, in-one-down, in-one-up, in-up-to}
 use Rattle.block.specs.Line.{isPlan, is-section, owner, first-section, is-first, is-exit, entrance, terminus, after, same-station, across-frontier}
-use Rattle.block.specs.Situation.{station, areaDirection, held, _has-exit-route}
+use Rattle.block.specs.Situation.{Kept, station, areaDirection, held, _has-exit-route}
 use Rattle.block.specs.declared.line.Plan.{Plan}
 use Rattle.block.specs.declared.line.Name.{Name}
 use Rattle.block.specs.declared.line.Name.the-variants.{StationA, StationB}
 use Rattle.block.specs.declared.line.Direction.{Direction}
 use Rattle.block.specs.declared.line.Direction.the-variants.{TowardsA, TowardsB}
-use Rattle.block.specs.declared.situation.Situation.{Situation}
-use Rattle.signals.specs.Aspects.{runs, block-open, exit-open, not-red, is-last, next-not-red, aspect-at}
-use Rattle.signals.specs.SignalSets.{those, in-area, leaves, arrives, block-lit, exit-lit, is-green, Moved, on-edge, shown}
+use Rattle.signals.specs.Aspects.{runs, is-open}
+use Rattle.signals.specs.SignalSets.{those, off-line, in-area, leaves, arrives, block-lit, exit-lit, runs-somewhere, is-last, next-open, is-green, Moved, on-edge, number, shown}
 use Rattle.signals.specs.declared.lights.Lights.{Lights}
 
 -- ---- the numbers of a plan
@@ -102,21 +102,21 @@ far-station false b true h = refl
 far-station false b false h = refl
 
 -- where trains enter the line they leave, and they arrive at the other end
-by-station : (x : Situation) (d : Direction) (s : Name) (h : Bool) → ((leaves (station x (entrance d)) and same-station s (entrance d) or arrives (station x (terminus d)) and same-station s (terminus d)) and not h) ≡ (runs s (areaDirection (station x s)) d and not h and not (station x s .bslg))
-by-station x TowardsA StationA h = far-station (areaDirection (x .own) .inward) (x .own .bslg) (leaves (x .other)) h
-by-station x TowardsA StationB h = near-station (areaDirection (x .other) .out) (x .other .bslg) (arrives (x .own)) h
-by-station x TowardsB StationA h = near-station (areaDirection (x .own) .out) (x .own .bslg) (arrives (x .other)) h
-by-station x TowardsB StationB h = far-station (areaDirection (x .other) .inward) (x .other .bslg) (leaves (x .own)) h
+by-station : (x : Kept) (d : Direction) (s : Name) (h : Bool) → ((leaves (station x (entrance d)) and same-station s (entrance d) or arrives (station x (terminus d)) and same-station s (terminus d)) and not h) ≡ (runs s (areaDirection (station x s)) d and not h and not (station x s .bslg))
+by-station x TowardsA StationA h = far-station (areaDirection (x .traffic .own) .inward) (x .traffic .own .bslg) (leaves (x .traffic .other)) h
+by-station x TowardsA StationB h = near-station (areaDirection (x .traffic .other) .out) (x .traffic .other .bslg) (arrives (x .traffic .own)) h
+by-station x TowardsB StationA h = near-station (areaDirection (x .traffic .own) .out) (x .traffic .own .bslg) (arrives (x .traffic .other)) h
+by-station x TowardsB StationB h = far-station (areaDirection (x .traffic .other) .inward) (x .traffic .other .bslg) (leaves (x .traffic .own)) h
 
-pub block-set : (p : Plan) (x : Situation) (d : Direction) (a b : ℕ) → those p (in-area p (entrance d)) a → those p (in-area p (terminus d)) b → those p (block-lit p x d) (either (if leaves (station x (entrance d)) then a else none) (if arrives (station x (terminus d)) then b else none) minus held x d)
+pub block-set : (p : Plan) (x : Kept) (d : Direction) (a b : ℕ) → those p (in-area p (entrance d)) a → those p (in-area p (terminus d)) b → those p (block-lit p x d) (either (if leaves (station x (entrance d)) then a else none) (if arrives (station x (terminus d)) then b else none) minus held x d)
 block-set p x d a b near far k e =
     in-minus k (either (if leaves (station x (entrance d)) then a else none) (if arrives (station x (terminus d)) then b else none)) (held x d)
-    ∙ ap (λ (v : Bool). v and not (k ∈ held x d))
+    ∙ ap (λ (v : Bool). v and not (k belongs-to held x d))
     (in-either k (if leaves (station x (entrance d)) then a else none) (if arrives (station x (terminus d)) then b else none)
     ∙ ap₂ (λ (v w : Bool). v or w)
     (in-given k (leaves (station x (entrance d))) a ∙ ap (λ (v : Bool). leaves (station x (entrance d)) and v) (near k e))
     (in-given k (arrives (station x (terminus d))) b ∙ ap (λ (v : Bool). arrives (station x (terminus d)) and v) (far k e)))
-    ∙ by-station x d (owner p k) (k ∈ held x d)
+    ∙ by-station x d (owner p k) (k belongs-to held x d)
 
 -- ---- exit signals
 and-turned : (a b : Bool) → (a and b) ≡ (b and a)
@@ -125,7 +125,7 @@ and-turned true false = refl
 and-turned false true = refl
 and-turned false false = refl
 
-pub exit-set : (p : Plan) (x : Situation) (d : Direction) → isPlan p ≡ true → those p (exit-lit p x d) (if station x (entrance d) has-exit-route and areaDirection (station x (entrance d)) .out then only (first-section p (entrance d)) else none)
+pub exit-set : (p : Plan) (x : Kept) (d : Direction) → isPlan p ≡ true → those p (exit-lit p x d) (if station x (entrance d) has-exit-route and areaDirection (station x (entrance d)) .out then only (first-section p (entrance d)) else none)
 exit-set p x d plan k e =
     let v : Bool = station x (entrance d) has-exit-route and areaDirection (station x (entrance d)) .out in
     in-given k v (only (first-section p (entrance d)))
@@ -146,16 +146,16 @@ chosen false true false false r o true = refl
 chosen false true false false r o false = refl
 chosen false false h b r o c = refl
 
-pub open-set : (p : Plan) (x : Situation) (d : Direction) (a b : ℕ) → isPlan p ≡ true → those p (block-lit p x d) a → those p (exit-lit p x d) b → those p (not-red p x d) (either (a minus only (first-section p (entrance d))) b minus x .occupied)
+pub open-set : (p : Plan) (x : Kept) (d : Direction) (a b : ℕ) → isPlan p ≡ true → those p (block-lit p x d) a → those p (exit-lit p x d) b → those p (is-open p x d) (either (a minus only (first-section p (entrance d))) b minus x .traffic .track .occupied)
 open-set p x d a b plan blocks exit k e =
     let first : ℕ = only (first-section p (entrance d)) in
-    in-minus k (either (a minus first) b) (x .occupied)
-    ∙ ap (λ (v : Bool). v and not (k ∈ x .occupied))
+    in-minus k (either (a minus first) b) (x .traffic .track .occupied)
+    ∙ ap (λ (v : Bool). v and not (k belongs-to x .traffic .track .occupied))
     (in-either k (a minus first) b
     ∙ ap₂ (λ (v w : Bool). v or w)
     (in-minus k a first ∙ ap₂ (λ (v w : Bool). v and not w) (blocks k e) (in-only k (first-section p (entrance d)) (first-small p (entrance d) plan)))
     (exit k e))
-    ∙ chosen (is-exit p d k) (runs (owner p k) (areaDirection (station x (owner p k))) d) (k ∈ held x d) (station x (owner p k) .bslg) (station x (entrance d) has-exit-route) (areaDirection (station x (entrance d)) .out) (k ∈ x .occupied)
+    ∙ chosen (is-exit p d k) (runs (owner p k) (areaDirection (station x (owner p k))) d) (k belongs-to held x d) (station x (owner p k) .bslg) (station x (entrance d) has-exit-route) (areaDirection (station x (entrance d)) .out) (k belongs-to x .traffic .track .occupied)
 
 -- ---- the next signals
 pub moved-B : (m : ℕ) → Moved TowardsB m (one-down m)
@@ -163,7 +163,7 @@ moved-B m k l h = in-one-down k m
 
 pub moved-A : (m : ℕ) → Moved TowardsA m (one-up m)
 moved-A m zero l h = absurd (omega arith)
-moved-A m (suc j) l h = ap (λ (k : ℕ). k ∈ one-up m) (omega arith) ∙ in-one-up j m (omega arith) ∙ ap (λ (k : ℕ). k ∈ m) (omega arith)
+moved-A m (suc j) l h = ap (λ (k : ℕ). k belongs-to one-up m) (omega arith) ∙ in-one-up j m (omega arith) ∙ ap (λ (k : ℕ). k belongs-to m) (omega arith)
 
 pub edge-B : (p : Plan) → isPlan p ≡ true → on-edge p TowardsB (p .frontier)
 edge-B p plan = let h : Sized p = sized p plan in (omega arith, at)
@@ -210,17 +210,17 @@ before-last true false false false = refl
 before-last false link edge true = refl
 before-last false link edge false = refl
 
-module _ (p : Plan) (x : Situation) (d : Direction) (m next edge : ℕ) where
+module _ (p : Plan) (x : Kept) (d : Direction) (m next edge : ℕ) where
   abbrev pub last : ℕ
   last = first-section p (terminus d)
 
   abbrev pub ahead : ℕ
-  ahead = next minus (if not (x .link) then only edge else none)
+  ahead = next minus (if not (x .traffic .link) then only edge else none)
 
   abbrev pub entered : ℕ
   entered = if station x (terminus d) .entry then only last else none
 
-  pub next-set : isPlan p ≡ true → Moved d m next → on-edge p d edge → those p (not-red p x d) m → those p (next-not-red p x d) (either (ahead minus only last) entered)
+  pub next-set : isPlan p ≡ true → Moved d m next → on-edge p d edge → those p (is-open p x d) m → those p (next-open p x d) (either (ahead minus only last) entered)
   next-set plan moved on known k e =
       in-either k (ahead minus only last) entered
       ∙ ap₂ (λ (v w : Bool). v or w)
@@ -231,30 +231,80 @@ module _ (p : Plan) (x : Situation) (d : Direction) (m next edge : ℕ) where
       small : last < 49
       small = first-small p (terminus d) plan
 
-      seen : (k ∈ ahead) ≡ ((k ∈ next) and not (not (x .link) and eqb k edge))
+      seen : (k belongs-to ahead) ≡ ((k belongs-to next) and not (not (x .traffic .link) and eqb k edge))
       seen =
-          in-minus k next (if not (x .link) then only edge else none)
-          ∙ ap (λ (v : Bool). (k ∈ next) and not v) (in-given k (not (x .link)) (only edge) ∙ ap (λ (v : Bool). not (x .link) and v) (in-only k edge (on .0)))
+          in-minus k next (if not (x .traffic .link) then only edge else none)
+          ∙ ap (λ (v : Bool). (k belongs-to next) and not v) (in-given k (not (x .traffic .link)) (only edge) ∙ ap (λ (v : Bool). not (x .traffic .link) and v) (in-only k edge (on .0)))
 
-      go : Dec (k ≡ last) → (((k ∈ next) and not (not (x .link) and eqb k edge)) and not (eqb k last) or station x (terminus d) .entry and eqb k last) ≡ next-not-red p x d k
-      go (yes same) = rw (eq-eqb k last same) (at-last (k ∈ next) (not (x .link) and eqb k edge) (station x (terminus d) .entry))
+      go : Dec (k ≡ last) → (((k belongs-to next) and not (not (x .traffic .link) and eqb k edge)) and not (eqb k last) or station x (terminus d) .entry and eqb k last) ≡ next-open p x d k
+      go (yes same) = rw (eq-eqb k last same) (at-last (k belongs-to next) (not (x .traffic .link) and eqb k edge) (station x (terminus d) .entry))
       go (no other) =
           let w : Within p k = within p k e in
           let n : Sized p = sized p plan in
-          let after-known : (k ∈ next) ≡ not-red p x d (after d k) = moved k (w .least) (omega arith) ∙ known (after d k) (after-section p d k w other) in
+          let after-known : (k belongs-to next) ≡ is-open p x d (after d k) = moved k (w .least) (omega arith) ∙ known (after d k) (after-section p d k w other) in
           rw (ne-eqb k last other)
-          (before-last (k ∈ next) (x .link) (eqb k edge) (station x (terminus d) .entry)
-          ∙ ap₂ (λ (v u : Bool). v and (x .link or not u)) after-known (on .1 k (w .least)))
+          (before-last (k belongs-to next) (x .traffic .link) (eqb k edge) (station x (terminus d) .entry)
+          ∙ ap₂ (λ (v u : Bool). v and (x .traffic .link or not u)) after-known (on .1 k (w .least)))
 
 -- ---- what is shown
-pub green-set : (p : Plan) (x : Situation) (d : Direction) (m n : ℕ) → those p (not-red p x d) m → those p (next-not-red p x d) n → those p (is-green p x d) (both m n)
+pub green-set : (p : Plan) (x : Kept) (d : Direction) (m n : ℕ) → those p (is-open p x d) m → those p (next-open p x d) n → those p (is-green p x d) (both m n)
 green-set p x d m n a b k e = in-both k m n ∙ ap₂ (λ (v w : Bool). v and w) (a k e) (b k e)
 
-by-aspect : (v w : Bool) → _≡_ {A = ℕ} (if v then (if v and w then 2 else 1) else 0) (if v then (if w then 2 else 1) else 0)
-by-aspect true w = refl
-by-aspect false w = refl
+pub green-is-open : (v w : Bool) → number v (v and w) ≡ number v w
+green-is-open true w = refl
+green-is-open false w = refl
 
-pub shown-is : (p : Plan) (x : Situation) (d : Direction) (l : Lights) → those p (not-red p x d) (l .open) → those p (is-green p x d) (l .green) → (k : ℕ) → is-section p k ≡ true → shown l k ≡ aspect-at p x d k
-shown-is p x d l a b k e =
-    ap₂ {C = ℕ} (λ (v w : Bool). if v then (if w then 2 else 1) else 0) (a k e) (b k e)
-    ∙ by-aspect (not-red p x d k) (next-not-red p x d k)
+-- ---- where no train runs that way, no signal is open
+neither : (a b : Bool) → (a or b) ≡ false → (a ≡ false) × (b ≡ false)
+neither true b h = (h, absurd (subst T h tt))
+neither false b h = (refl, h)
+
+none-runs : (x : Kept) (d : Direction) → runs-somewhere x d ≡ false → (s : Name) → runs s (areaDirection (station x s)) d ≡ false
+none-runs x TowardsA h StationA = neither (areaDirection (x .traffic .other) .out) (areaDirection (x .traffic .own) .inward) h .1
+none-runs x TowardsA h StationB = neither (areaDirection (x .traffic .other) .out) (areaDirection (x .traffic .own) .inward) h .0
+none-runs x TowardsB h StationA = neither (areaDirection (x .traffic .own) .out) (areaDirection (x .traffic .other) .inward) h .0
+none-runs x TowardsB h StationB = neither (areaDirection (x .traffic .own) .out) (areaDirection (x .traffic .other) .inward) h .1
+
+none-out : (x : Kept) (d : Direction) → runs-somewhere x d ≡ false → areaDirection (station x (entrance d)) .out ≡ false
+none-out x d h = neither (areaDirection (station x (entrance d)) .out) (areaDirection (station x (terminus d)) .inward) h .0
+
+closed : (exit routed out runs free held bslg : Bool) → out ≡ false → runs ≡ false → false ≡ (if exit then routed and out and free else runs and free and held and bslg)
+closed true true out runs free held bslg e f = rw e
+closed true false out runs free held bslg e f = refl
+closed false routed out runs free held bslg e f = rw f
+
+pub nothing-open : (p : Plan) (x : Kept) (d : Direction) → runs-somewhere x d ≡ false → those p (is-open p x d) none × off-line p none
+nothing-open p x d h = (
+  λ k e. none-has k ∙ closed (is-exit p d k) (station x (entrance d) has-exit-route) (areaDirection (station x (entrance d)) .out) (runs (owner p k) (areaDirection (station x (owner p k))) d) (not (k belongs-to x .traffic .track .occupied)) (not (k belongs-to held x d)) (not (station x (owner p k) .bslg)) (none-out x d h) (none-runs x d h (owner p k)),
+  λ k e. none-has k,
+)
+
+-- ---- no bit off the line
+module _ (p : Plan) where
+  pub off-minus : (a b : ℕ) → off-line p a → off-line p (a minus b)
+  off-minus a b h k e = in-minus k a b ∙ ap (λ (v : Bool). v and not (k belongs-to b)) (h k e)
+
+  pub off-either : (a b : ℕ) → off-line p a → off-line p b → off-line p (either a b)
+  off-either a b h g k e = in-either k a b ∙ ap₂ (λ (v w : Bool). v or w) (h k e) (g k e)
+
+  and-off : (v : Bool) → (v and false) ≡ false
+  and-off true = refl
+  and-off false = refl
+
+  pub off-given : (v : Bool) (a : ℕ) → off-line p a → off-line p (if v then a else none)
+  off-given v a h k e = in-given k v a ∙ ap (λ (w : Bool). v and w) (h k e) ∙ and-off v
+
+  pub off-up-to : (n : ℕ) → n ≤ p .sections → off-line p (up-to n)
+  off-up-to n h k e = in-up-to k n ∙ go (leb 1 k) (leb k n) refl refl
+    where
+      go : (v w : Bool) → leb 1 k ≡ v → leb k n ≡ w → (v and w) ≡ false
+      go false w f g = refl
+      go true false f g = refl
+      go true true f g = rw (f, le-leb k (p .sections) (omega (arith, leb-true k n g))) at e
+
+  pub off-only : (j : ℕ) → j < 49 → is-section p j ≡ true → off-line p (only j)
+  off-only j small inside k e = in-only k j small ∙ ne-eqb k j (λ (same : k ≡ j). subst T (sym inside ∙ ap (is-section p) (sym same) ∙ e) tt)
+
+pub first-inside : (p : Plan) (s : Name) → isPlan p ≡ true → is-section p (first-section p s) ≡ true
+first-inside p StationA e = let h : Sized p = sized p e in rw (le-leb 1 (p .sections) (omega arith))
+first-inside p StationB e = let h : Sized p = sized p e in rw (le-leb 1 (p .sections) (omega arith), le-leb (p .sections) (p .sections) (omega arith))

@@ -1,21 +1,20 @@
-// The aspects of all signals of a direction at once, as sets of their sections. The situation is kept as A sees it.
+// The aspects of all signals of a direction at once, as sets of their sections, and of one signal, read off them. The situation is kept as
+// A sees it.
 ghost use mathlib.Core.Path.{_≡_};
 ghost use Prim.Native.Nat.{_≤_};
 ghost use mathlib.Core.Bool.{true};
-ghost use Rattle.sections.specs.Words.{if_then_else_};
+ghost use Rattle.words.specs.Words.{if_then_else_};
 ghost use Rattle.sections.specs.Sections.{only};
-ghost use Rattle.block.specs.Line.{isPlan, first-section, is-signal};
-ghost use Rattle.packed.specs.Packed.{station, unpacked};
-ghost use Rattle.signals.specs.Aspects.{not-red, next-not-red};
-ghost use Rattle.signals.specs.SignalSets.{those, in-area, leaves, arrives, block-lit, exit-lit, is-green, on-edge, Moved, shown};
+ghost use Rattle.block.specs.Line.{isPlan, first-section};
+ghost use Rattle.block.specs.declared.line.Direction.the-variants.{TowardsA, TowardsB};
+ghost use Rattle.situation.specs.Packed.{station, unpacked};
+ghost use Rattle.signals.specs.Aspects.{is-open, aspect};
+ghost use Rattle.signals.specs.SignalSets.{those, off-line, in-area, leaves, arrives, block-lit, exit-lit, runs-somewhere, next-open, is-green, on-edge, Moved, shown, shown-at};
 use block::line::Direction;
 use block::line::Name;
 use block::line::Plan;
-use packed::marks::area_direction;
-use packed::marks::bslg;
-use packed::marks::entry;
-use packed::marks::routed;
-use packed::situation::Situation;
+use block::line::direction_of;
+use block::line::section_of;
 use sections::both;
 use sections::either;
 use sections::given;
@@ -25,6 +24,15 @@ use sections::one_down;
 use sections::one_up;
 use sections::single;
 use sections::up_to;
+use situation::Situation;
+use situation::Station;
+use words::flag;
+
+pub const RED: u8 = 0;
+
+pub const YELLOW: u8 = 1;
+
+pub const GREEN: u8 = 2;
 
 // The signals of a direction that are not red, and those that are green, by their sections.
 pub struct Lights {
@@ -43,7 +51,7 @@ fn first(plan: Plan, s: Name) -> u64
 
 fn area(plan: Plan, s: Name) -> u64
     requires { ⌜ isPlan plan ≡ true ⌝ }
-    ensures { λ r. ⌜ those plan (in-area plan s) r ⌝ }
+    ensures { λ r. ⌜ those plan (in-area plan s) r × off-line plan r ⌝ }
 {
     let a = up_to(plan.frontier);
     match s {
@@ -53,31 +61,31 @@ fn area(plan: Plan, s: Name) -> u64
 }
 
 // The area direction is out, and the station has no BSLG.
-fn leaves(marks: u64) -> bool
-    ensures { λ r. ⌜ r ≡ leaves (station marks) ⌝ }
+fn leaves(t: Station) -> bool
+    ensures { λ r. ⌜ r ≡ leaves (station t) ⌝ }
 {
-    let way = area_direction(marks);
-    way.out & !bslg(marks)
+    let way = t.area_direction();
+    way.out & !t.has_bslg()
 }
 
 // The area direction is in, and the station has no BSLG.
-fn arrives(marks: u64) -> bool
-    ensures { λ r. ⌜ r ≡ arrives (station marks) ⌝ }
+fn arrives(t: Station) -> bool
+    ensures { λ r. ⌜ r ≡ arrives (station t) ⌝ }
 {
-    let way = area_direction(marks);
-    way.inward & !bslg(marks)
+    let way = t.area_direction();
+    way.inward & !t.has_bslg()
 }
 
 // A block signal's area direction is its own, its station has no BSLG, and BSLB does not hold it. Trains leave the area of the station
 // where they enter the line, and arrive in the other.
 fn block_lit(plan: Plan, x: Situation, d: Direction) -> u64
     requires { ⌜ isPlan plan ≡ true ⌝ }
-    ensures { λ r. ⌜ those plan (block-lit plan (unpacked x) d) r ⌝ }
+    ensures { λ r. ⌜ those plan (block-lit plan (unpacked x) d) r × off-line plan r ⌝ }
 {
     let s = d.entrance();
     let t = d.terminus();
-    let near = leaves(x.marks(s));
-    let far = arrives(x.marks(t));
+    let near = leaves(x.station(s));
+    let far = arrives(x.station(t));
     let lit = either(given(near, area(plan, s)), given(far, area(plan, t)));
     minus(lit, x.held(d))
 }
@@ -85,25 +93,40 @@ fn block_lit(plan: Plan, x: Situation, d: Direction) -> u64
 // The exit signal's station has an exit route, and the area direction is out.
 fn exit_lit(plan: Plan, x: Situation, d: Direction) -> u64
     requires { ⌜ isPlan plan ≡ true ⌝ }
-    ensures { λ r. ⌜ those plan (exit-lit plan (unpacked x) d) r ⌝ }
+    ensures { λ r. ⌜ those plan (exit-lit plan (unpacked x) d) r × off-line plan r ⌝ }
 {
     let s = d.entrance();
-    let marks = x.marks(s);
-    let routed = routed(marks);
-    let way = area_direction(marks);
+    let t = x.station(s);
+    let routed = t.routed();
+    let way = t.area_direction();
     given(routed & way.out, first(plan, s))
 }
 
-// The signals that are not red: of the first section the exit signal, of the others the block signals.
-pub fn not_red(plan: Plan, x: Situation, d: Direction) -> u64
-    requires { ⌜ isPlan plan ≡ true ⌝ }
-    ensures { λ r. ⌜ those plan (not-red plan (unpacked x) d) r ⌝ }
+// Whether trains run in that direction anywhere on the line.
+fn runs(x: Situation, d: Direction) -> bool
+    ensures { λ r. ⌜ r ≡ runs-somewhere (unpacked x) d ⌝ }
 {
+    let s = d.entrance();
+    let t = d.terminus();
+    let here = x.station(s).area_direction();
+    let there = x.station(t).area_direction();
+    here.out | there.inward
+}
+
+// The signals that are not red: of the first section the exit signal, of the others the block signals. Where no train runs that way, there
+// is none.
+fn open_signals(plan: Plan, x: Situation, d: Direction) -> u64
+    requires { ⌜ isPlan plan ≡ true ⌝ }
+    ensures { λ r. ⌜ those plan (is-open plan (unpacked x) d) r × off-line plan r ⌝ }
+{
+    if !runs(x, d) {
+        return 0;
+    }
     let s = d.entrance();
     let blocks = block_lit(plan, x, d);
     let exit = exit_lit(plan, x, d);
     let lit = either(minus(blocks, first(plan, s)), exit);
-    minus(lit, x.occupied_sections())
+    minus(lit, x.occupied)
 }
 
 // The sections whose next one in that direction is in m.
@@ -129,35 +152,80 @@ fn edge(plan: Plan, d: Direction) -> u8
 
 // The signals whose next one is not red, m being those that are not red themselves. The next after the last is the entry signal; a next
 // signal across the frontier is read as red when link is down.
-fn next_not_red(plan: Plan, x: Situation, d: Direction, m: u64) -> u64
-    requires { ⌜ (isPlan plan ≡ true) × those plan (not-red plan (unpacked x) d) m ⌝ }
-    ensures { λ r. ⌜ those plan (next-not-red plan (unpacked x) d) r ⌝ }
+fn next_open(plan: Plan, x: Situation, d: Direction, m: u64) -> u64
+    requires { ⌜ (isPlan plan ≡ true) × those plan (is-open plan (unpacked x) d) m ⌝ }
+    ensures { λ r. ⌜ those plan (next-open plan (unpacked x) d) r ⌝ }
 {
     let t = d.terminus();
     let last = first(plan, t);
-    let marks = x.marks(t);
-    let entered = given(entry(marks), last);
+    let station = x.station(t);
+    let entered = given(station.has_entry(), last);
     let unseen = given(!x.linked(), single(edge(plan, d)));
     let next = minus(next_in(m, d), unseen);
     either(minus(next, last), entered)
 }
 
 // The green signals, m being those that are not red: a signal that is not red is yellow if the next one is red and green otherwise.
-pub fn green(plan: Plan, x: Situation, d: Direction, m: u64) -> u64
-    requires { ⌜ (isPlan plan ≡ true) × those plan (not-red plan (unpacked x) d) m ⌝ }
+fn green_signals(plan: Plan, x: Situation, d: Direction, m: u64) -> u64
+    requires { ⌜ (isPlan plan ≡ true) × those plan (is-open plan (unpacked x) d) m ⌝ }
     ensures { λ r. ⌜ those plan (is-green plan (unpacked x) d) r ⌝ }
 {
-    let next = next_not_red(plan, x, d, m);
+    let next = next_open(plan, x, d, m);
     both(m, next)
 }
 
-fn flag(v: bool) -> u8
-    ensures { λ r. ⌜ (r ≡ (if v then 1 else 0)) × (r ≤ 1) ⌝ }
+// What all signals of a direction show.
+pub fn all_lights(plan: Plan, x: Situation, d: Direction) -> Lights
+    requires { ⌜ isPlan plan ≡ true ⌝ }
+    ensures { λ r. ⌜ those plan (is-open plan (unpacked x) d) (r .open) × those plan (is-green plan (unpacked x) d) (r .green) ⌝ }
 {
-    if v {
-        return 1;
+    let open = open_signals(plan, x, d);
+    let green = green_signals(plan, x, d, open);
+    Lights { open, green }
+}
+
+// The signal over section k, towards A. The direction is written out here and in the next, so that the compiler knows it.
+fn towards_a(plan: Plan, x: Situation, k: u8) -> u8
+    requires { ⌜ isPlan plan ≡ true ⌝ }
+    ensures { λ r. ⌜ r ≡ shown-at plan (unpacked x) TowardsA k ⌝ }
+{
+    let open = open_signals(plan, x, Direction::TowardsA);
+    if !has(open, k as u16) {
+        return RED;
     }
-    0
+    let green = green_signals(plan, x, Direction::TowardsA, open);
+    if has(green, k as u16) {
+        return GREEN;
+    }
+    YELLOW
+}
+
+// The signal over section k, towards B.
+fn towards_b(plan: Plan, x: Situation, k: u8) -> u8
+    requires { ⌜ isPlan plan ≡ true ⌝ }
+    ensures { λ r. ⌜ r ≡ shown-at plan (unpacked x) TowardsB k ⌝ }
+{
+    let open = open_signals(plan, x, Direction::TowardsB);
+    if !has(open, k as u16) {
+        return RED;
+    }
+    let green = green_signals(plan, x, Direction::TowardsB, open);
+    if has(green, k as u16) {
+        return GREEN;
+    }
+    YELLOW
+}
+
+// The aspect of a signal, for a plan and a situation that are judged already.
+pub fn aspect_of(plan: Plan, x: Situation, signal: u8) -> u8
+    requires { ⌜ isPlan plan ≡ true ⌝ }
+    ensures { λ r. ⌜ r ≡ aspect plan (unpacked x) signal ⌝ }
+{
+    let k = section_of(signal);
+    match direction_of(signal) {
+        Direction::TowardsA => towards_a(plan, x, k),
+        Direction::TowardsB => towards_b(plan, x, k),
+    }
 }
 
 pub fn shown(l: Lights, k: u8) -> u8

@@ -2,7 +2,7 @@
 use mathlib.Core.Path.{sym, ap, _∙_}
 use borrow.Author.Needs.{needs}
 use borrow.Author.Tests.{eq-eqb, ne-eqb}
-use Rattle.packed.specs.Packed.{unpacked}
+use Rattle.situation.specs.Packed.{unpacked}
 use Rattle.records.specs.Situation.{situation-of}
 use Rattle.bodies.proofs.WordLaws.{in-words-say}
 use Rattle.bodies.proofs.situation_in.Statement.{statement}

@@ -13,11 +13,11 @@ use Rattle.keylaws.specs.Parts.{Part, handed}
 use Rattle.keylaws.specs.Walk.{tries, walk}
 use Rattle.keylaws.specs.Sheet.{grow, grows, put}
 use Rattle.keylaws.proofs.WalkSteps.{try-none, try-refused, try-full, try-on, node-leaf, node-full, node-on}
-use Rattle.block.specs.declared.situation.Situation.{Situation}
-use Rattle.packed.specs.Packed.{unpacked}
+use Rattle.block.specs.Situation.{Situation}
+use Rattle.situation.specs.Packed.{unpacked}
 use Rattle.rules.specs.RulesOf.{tried, rulesOf}
 use denote.Ref.{now}
-use Rattle.engine.specs.Walked.{explored}
+use Rattle.engine.specs.Walked.{ends, explored}
 use Rattle.engine.specs.declared.Ask.{Ask}
 use Rattle.engine.specs.declared.Node.{Node}
 use Rattle.engine.proofs.OwnAnswer.{last-one, last-none}
@@ -30,8 +30,10 @@ use Rattle.engine.proofs.+attempt+explore.Lts-explore as explore-lts
 use Rattle.engine.proofs.ends_answer.Reads as ends-answer-reads
 use Rattle.engine.proofs.own_answer.Reads as own-answer-reads
 use Rattle.engine.proofs.start_of.Reads as start-of-reads
-use Rattle.rules.proofs.tries.reached_at.Reads as reached-at-reads
-use Rattle.rules.proofs.tries.refusal_at.Reads as refusal-at-reads
+use Rattle.events.proofs.next.Reads as next-reads
+use Rattle.events.proofs.own_refusal.Reads as own-refusal-reads
+use Rattle.rules.proofs.tries.event_at.Reads as event-at-reads
+use Rattle.rules.proofs.EachEvent.{tried-refusal, tried-next}
 use Rattle.slots.proofs.room.grow_slot.Reads as grow-slot-reads
 use Rattle.slots.proofs.room.put_slot.Reads as put-slot-reads
 use Rattle.engine.proofs.+attempt+explore.{statement}
@@ -56,7 +58,7 @@ abbrev explore-below : ℕ → In 3 explore-kinds.ps
 explore-below t = and 3 explore-kinds.ps (falls 3 explore-kinds.ps _<_ μ-explore t) explore.Pre
 
 abbrev attempt-calls : ℕ → attempt-lts.Claims
-attempt-calls t = (start-of-reads.Asked, start-of-reads.Learnt, refusal-at-reads.Asked, refusal-at-reads.Learnt, ends-answer-reads.Asked, ends-answer-reads.Learnt, grow-slot-reads.Asked, grow-slot-reads.Learnt, put-slot-reads.Asked, put-slot-reads.Learnt, reached-at-reads.Asked, reached-at-reads.Learnt, explore-below t, explore.Post)
+attempt-calls t = (start-of-reads.Asked, start-of-reads.Learnt, event-at-reads.Asked, event-at-reads.Learnt, own-refusal-reads.Asked, own-refusal-reads.Learnt, ends-answer-reads.Asked, ends-answer-reads.Learnt, grow-slot-reads.Asked, grow-slot-reads.Learnt, put-slot-reads.Asked, put-slot-reads.Learnt, next-reads.Asked, next-reads.Learnt, explore-below t, explore.Post)
 
 abbrev explore-calls : ℕ → explore-lts.Claims
 explore-calls t = (own-answer-reads.Asked, own-answer-reads.Learnt, attempt-below t, attempt.Post)
@@ -83,89 +85,97 @@ attempt-start-of-requires t c κs = omega arith
 attempt-loop-holds : (t : ℕ) → attempt-lts.Need-loop-holds (attempt-calls t) (attempt-at t) attempt.Post attempt-Inv-loop attempt-μ-loop
 attempt-loop-holds t c = (omega arith, omega arith, refl, refl)
 
-attempt-refusal-at-requires : (t : ℕ) → attempt-lts.Need-refusal-at-requires (attempt-calls t) (attempt-at t) attempt.Post attempt-Inv-loop attempt-μ-loop
-attempt-refusal-at-requires t c κs = (omega arith, c .before .before .before .before .before .before .before .before .pre .1 .1 .1 .0)
+attempt-event-at-requires : (t : ℕ) → attempt-lts.Need-event-at-requires (attempt-calls t) (attempt-at t) attempt.Post attempt-Inv-loop attempt-μ-loop
+attempt-event-at-requires t c κs = omega arith
+
+attempt-own-refusal-requires : (t : ℕ) → attempt-lts.Need-own-refusal-requires (attempt-calls t) (attempt-at t) attempt.Post attempt-Inv-loop attempt-μ-loop
+attempt-own-refusal-requires t c κs = tt
 
 attempt-ends-answer-requires : (t : ℕ) → attempt-lts.Need-ends-answer-requires (attempt-calls t) (attempt-at t) attempt.Post attempt-Inv-loop attempt-μ-loop
-attempt-ends-answer-requires t c κs =
-    let i = c .before in
-    (omega arith, (sym (i .before .refusal-at .ensures) ∙ i .if1 .taken, c .before .before .before .before .before .before .before .before .before .before .before .pre .1 .1 .1 .1))
+attempt-ends-answer-requires t c κs = c .before .before .before .before .before .before .before .before .before .before .before .before .pre .1 .1 .1 .1
 
 attempt-grow-slot-requires : (t : ℕ) → attempt-lts.Need-grow-slot-requires (attempt-calls t) (attempt-at t) attempt.Post attempt-Inv-loop attempt-μ-loop
-attempt-grow-slot-requires t c κs = omega (arith, c .before .before .before .before .before .before .before .before .before .before .before .before .before .pre)
+attempt-grow-slot-requires t c κs = omega (arith, c .before .before .before .before .before .before .before .before .before .before .before .before .before .before .pre)
 
 attempt-put-slot-requires : (t : ℕ) → attempt-lts.Need-put-slot-requires (attempt-calls t) (attempt-at t) attempt.Post attempt-Inv-loop attempt-μ-loop
-attempt-put-slot-requires t c κs = c .before .before .before .before .before .before .before .before .loop .inv .1
+attempt-put-slot-requires t c κs = c .before .before .before .before .before .before .before .before .before .loop .inv .1
 
 attempt-same-length : (t : ℕ) → attempt-lts.Need-same-length (attempt-calls t) (attempt-at t) attempt.Post attempt-Inv-loop attempt-μ-loop
-attempt-same-length t c = omega (arith, c .before .before .before .before .before .before .before .before .before .before .before .before .loop .inv .2)
+attempt-same-length t c = omega (arith, c .before .before .before .before .before .before .before .before .before .before .before .before .before .loop .inv .2)
 
 attempt-returns : (t : ℕ) → attempt-lts.Need-returns (attempt-calls t) (attempt-at t) attempt.Post attempt-Inv-loop attempt-μ-loop
 attempt-returns t c =
-    let p = c .before .before .before in
-    let e = p .before .before .before in
-    let i = e .before .before .before in
-    let f = i .before .before in
-    let l = f .before .loop in
-    let a = f .before .before .before .before .before .before .before .before .args in
+    let s = c .before .before .before .before .before .before .before .before .before .before .before .before .before .before .before .before .before .before .before .before in
+    let a = s .args in
+    let l = c .before .before .before .before .before .before .before .before .before .before .before .before .before .loop in
+    let is = c .before .before .before .before .before .before .before .before .before .before .before .event-at .ensures in
+    let within : 2 * l .place ≤ length (now (a .events)) = omega (arith, c .before .before .before .before .before .before .before .before .before .before .before .before .loop-test .taken) in
+    let told = tried-refusal (a .ask .plan) (unpacked (a .x)) (now (a .events)) (l .place) is (l .inv .0) within (s .pre .1 .1 .1 .0) (c .before .before .before .before .before .before .before .before .before .before .own-refusal .ensures) in
+    let accepted = sym told ∙ c .before .before .before .before .before .before .before .before .before .if1 .taken in
+    let leads = tried-next (a .ask .plan) (unpacked (a .x)) (now (a .events)) (l .place) is accepted in
     let y = tried (a .ask .plan) (now (a .events)) (unpacked (a .x)) (l .place) .next in (
-      rw (← f .before .before .start-of .ensures .0, ← f .before .before .start-of .ensures .1 .0)
-          (try-full _ _ _ _ _ _ _ _ y (p .before .before .grow-slot .result) _ _ _ (f .loop-test .taken) (eq-eqb _ 0 (sym (i .before .refusal-at .ensures) ∙ i .if1 .taken)) refl (p .before .before .grow-slot .ensures)
-          (last-one (rulesOf (a .ask .plan) (now (a .events)) (now (a .readings))) (l .on) (a .ask .from) (a .at .depth + 1) y _ _ _ _ (omega (arith, e .before .before .if2 .taken)) _ _ _ (sym (e .before .ends-answer .ensures) ∙ e .if3 .taken) (p .put-slot .ensures .0))
+      rw (← c .before .before .before .before .before .before .before .before .before .before .before .before .before .before .start-of .ensures .0, ← c .before .before .before .before .before .before .before .before .before .before .before .before .before .before .start-of .ensures .1 .0)
+          (try-full _ _ _ _ _ _ _ _ y (c .before .before .before .before .before .grow-slot .result) _ _ _ (c .before .before .before .before .before .before .before .before .before .before .before .before .loop-test .taken) (eq-eqb _ 0 accepted) refl (c .before .before .before .before .before .grow-slot .ensures)
+          (last-one (rulesOf (a .ask .plan) (now (a .events)) (now (a .readings))) (l .on) (a .ask .from) (a .at .depth + 1) y _ _ _ _ (omega (arith, c .before .before .before .before .before .before .before .before .if2 .taken)) _ _ _ (sym (c .before .before .before .before .before .before .before .ends-answer .ensures ∙ ap (ends (l .on) (a .ask .plan) (now (a .readings))) (leads refl)) ∙ c .before .before .before .before .before .before .if3 .taken) (c .before .before .before .put-slot .ensures .0))
           (c .if4 .taken) ∙ l .inv .3),
-      p .put-slot .ensures .1,
+      c .before .before .before .put-slot .ensures .1,
     )
 
 attempt-grow-slot-requires-2 : (t : ℕ) → attempt-lts.Need-grow-slot-requires-2 (attempt-calls t) (attempt-at t) attempt.Post attempt-Inv-loop attempt-μ-loop
-attempt-grow-slot-requires-2 t c κs = omega (arith, c .before .before .before .before .before .before .before .before .before .before .before .pre)
+attempt-grow-slot-requires-2 t c κs = omega (arith, c .before .before .before .before .before .before .before .before .before .before .before .before .pre)
 
-attempt-add-t30 : (t : ℕ) → attempt-lts.Need-add-t30 (attempt-calls t) (attempt-at t) attempt.Post attempt-Inv-loop attempt-μ-loop
-attempt-add-t30 t c = omega (arith, c .before .before .before .before .before .before .before .before .before .before .before .before .pre)
+attempt-add-t31 : (t : ℕ) → attempt-lts.Need-add-t31 (attempt-calls t) (attempt-at t) attempt.Post attempt-Inv-loop attempt-μ-loop
+attempt-add-t31 t c = omega (arith, c .before .before .before .before .before .before .before .before .before .before .before .before .before .pre)
 
-attempt-sub-t31 : (t : ℕ) → attempt-lts.Need-sub-t31 (attempt-calls t) (attempt-at t) attempt.Post attempt-Inv-loop attempt-μ-loop
-attempt-sub-t31 t c = omega (arith, c .before .before .before .before .before .before .before .before .before .before .before .before .pre)
+attempt-sub-t32 : (t : ℕ) → attempt-lts.Need-sub-t32 (attempt-calls t) (attempt-at t) attempt.Post attempt-Inv-loop attempt-μ-loop
+attempt-sub-t32 t c = omega (arith, c .before .before .before .before .before .before .before .before .before .before .before .before .before .pre)
 
-attempt-reached-at-requires : (t : ℕ) → attempt-lts.Need-reached-at-requires (attempt-calls t) (attempt-at t) attempt.Post attempt-Inv-loop attempt-μ-loop
-attempt-reached-at-requires t c κs =
-    let i = c .before .before in
-    (omega arith, sym (i .before .refusal-at .ensures) ∙ i .if1 .taken)
+attempt-next-requires : (t : ℕ) → attempt-lts.Need-next-requires (attempt-calls t) (attempt-at t) attempt.Post attempt-Inv-loop attempt-μ-loop
+attempt-next-requires t c κs = tt
 
 attempt-explore-requires : (t : ℕ) → attempt-lts.Need-explore-requires (attempt-calls t) (attempt-at t) attempt.Post attempt-Inv-loop attempt-μ-loop
 attempt-explore-requires t c κs =
-    let l = c .before .before .before .before .before .before .before in
-    let a = l .before .before .before .before .before .before .before in
+    let l = c .before .before .before .before .before .before .before .before in
+    let a = c .before .before .before .before .before .before .before .before .before .before .before .before .before .before .before in
     (omega (arith, a .pre .0), (omega (arith, l .loop .inv .1), (omega (arith, a .pre .1 .1 .0), a .pre .1 .1 .1)))
 
 attempt-same-length-2 : (t : ℕ) → attempt-lts.Need-same-length-2 (attempt-calls t) (attempt-at t) attempt.Post attempt-Inv-loop attempt-μ-loop
-attempt-same-length-2 t c = omega (arith, c .before .before .before .before .before .before .before .before .before .before .before .loop .inv .2)
+attempt-same-length-2 t c = omega (arith, c .before .before .before .before .before .before .before .before .before .before .before .before .loop .inv .2)
 
 attempt-returns-2 : (t : ℕ) → attempt-lts.Need-returns-2 (attempt-calls t) (attempt-at t) attempt.Post attempt-Inv-loop attempt-μ-loop
 attempt-returns-2 t c =
-    let v = c .before .before .before in
-    let g = v .before .before .before in
-    let i = g .before .before in
-    let f = i .before .before in
-    let l = f .before .loop in
-    let a = f .before .before .before .before .before .before .before .before .args in
-    let node : Node = record { slot = g .grow-slot2 .result; depth = a .at .depth + 1; left = a .at .left - 1; on = l .on; count = l .count } in (
-      rw (← f .before .before .start-of .ensures .0, ← f .before .before .start-of .ensures .1 .0)
-          (try-full _ _ _ _ _ _ _ _ (tried (a .ask .plan) (now (a .events)) (unpacked (a .x)) (l .place) .next) (g .grow-slot2 .result) _ _ _ (f .loop-test .taken) (eq-eqb _ 0 (sym (i .before .refusal-at .ensures) ∙ i .if1 .taken)) refl (g .grow-slot2 .ensures)
-          (v .explore .ensures .0 ∙ ap (λ (s : Situation). explored (a .ask) (now (a .events)) (now (a .readings)) s node (l .room)) (v .before .before .reached-at .ensures))
+    let s = c .before .before .before .before .before .before .before .before .before .before .before .before .before .before .before .before .before .before .before in
+    let a = s .args in
+    let l = c .before .before .before .before .before .before .before .before .before .before .before .before .loop in
+    let is = c .before .before .before .before .before .before .before .before .before .before .event-at .ensures in
+    let within : 2 * l .place ≤ length (now (a .events)) = omega (arith, c .before .before .before .before .before .before .before .before .before .before .before .loop-test .taken) in
+    let told = tried-refusal (a .ask .plan) (unpacked (a .x)) (now (a .events)) (l .place) is (l .inv .0) within (s .pre .1 .1 .1 .0) (c .before .before .before .before .before .before .before .before .before .own-refusal .ensures) in
+    let accepted = sym told ∙ c .before .before .before .before .before .before .before .before .if1 .taken in
+    let leads = tried-next (a .ask .plan) (unpacked (a .x)) (now (a .events)) (l .place) is accepted in
+    let y = tried (a .ask .plan) (now (a .events)) (unpacked (a .x)) (l .place) .next in
+    let node : Node = record { slot = c .before .before .before .before .before .before .grow-slot2 .result; depth = a .at .depth + 1; left = a .at .left - 1; on = l .on; count = l .count } in (
+      rw (← c .before .before .before .before .before .before .before .before .before .before .before .before .before .start-of .ensures .0, ← c .before .before .before .before .before .before .before .before .before .before .before .before .before .start-of .ensures .1 .0)
+          (try-full _ _ _ _ _ _ _ _ y (c .before .before .before .before .before .before .grow-slot2 .result) _ _ _ (c .before .before .before .before .before .before .before .before .before .before .before .loop-test .taken) (eq-eqb _ 0 accepted) refl (c .before .before .before .before .before .before .grow-slot2 .ensures)
+          (c .before .before .before .explore .ensures .0 ∙ ap (λ (s : Situation). explored (a .ask) (now (a .events)) (now (a .readings)) s node (l .room)) (leads (c .before .before .before .before .before .next .ensures)))
           (c .if5 .taken) ∙ l .inv .3),
-      v .explore .ensures .1,
+      c .before .before .before .explore .ensures .1,
     )
 
 attempt-add-place : (t : ℕ) → attempt-lts.Need-add-place (attempt-calls t) (attempt-at t) attempt.Post attempt-Inv-loop attempt-μ-loop
-attempt-add-place t c = omega (arith, c .before .before .before .before .before .before .before .before .before .before .pre)
+attempt-add-place t c = omega (arith, c .before .before .before .before .before .before .before .before .before .before .before .pre)
 
 attempt-loop-less : (t : ℕ) → attempt-lts.Need-loop-less (attempt-calls t) (attempt-at t) attempt.Post attempt-Inv-loop attempt-μ-loop
 attempt-loop-less t c = omega arith
 
 attempt-loop-again : (t : ℕ) → attempt-lts.Need-loop-again (attempt-calls t) (attempt-at t) attempt.Post attempt-Inv-loop attempt-μ-loop
 attempt-loop-again t c =
+    let s = c .before .before .before .before .before .before .before .before .before .before .before in
+    let a = s .args in
+    let l = c .before .before .before .before .loop in
+    let is = c .before .before .event-at .ensures in
+    let within : 2 * l .place ≤ length (now (a .events)) = omega arith in
+    let told = tried-refusal (a .ask .plan) (unpacked (a .x)) (now (a .events)) (l .place) is (l .inv .0) within (s .pre .1 .1 .1 .0) (c .before .own-refusal .ensures) in
     let r = c .before in
-    let l = r .before .before .loop in
-    let a = c .before .before .before .before .before .before .before .before .before .before .args in
     let y = tried (a .ask .plan) (now (a .events)) (unpacked (a .x)) (l .place) .next in
     ⊎-elim
     (λ v. (
@@ -173,8 +183,8 @@ attempt-loop-again t c =
       rw (v .10, v .11) (v .6 .ensures .1),
       rw (v .10) (omega (arith, l .inv .2)),
       rw (v .10, v .11)
-          (try-on _ _ _ _ _ _ _ _ y (v .4 .result) _ _ _ (r .before .loop-test .taken) (eq-eqb _ 0 (sym (r .refusal-at .ensures) ∙ v .0 .taken)) refl (v .4 .ensures)
-          (last-one (rulesOf (a .ask .plan) (now (a .events)) (now (a .readings))) (l .on) (a .ask .from) (a .at .depth + 1) y _ _ _ _ (omega (arith, v .1 .taken)) _ _ _ (sym (v .2 .ensures) ∙ v .3 .taken) (v .6 .ensures .0))
+          (try-on _ _ _ _ _ _ _ _ y (v .4 .result) _ _ _ (c .before .before .before .loop-test .taken) (eq-eqb _ 0 (sym told ∙ v .0 .taken)) refl (v .4 .ensures)
+          (last-one (rulesOf (a .ask .plan) (now (a .events)) (now (a .readings))) (l .on) (a .ask .from) (a .at .depth + 1) y _ _ _ _ (omega (arith, v .1 .taken)) _ _ _ (sym (v .2 .ensures ∙ ap (ends (l .on) (a .ask .plan) (now (a .readings))) (tried-next (a .ask .plan) (unpacked (a .x)) (now (a .events)) (l .place) is (sym told ∙ v .0 .taken) refl)) ∙ v .3 .taken) (v .6 .ensures .0))
           _ (v .9 .left) refl ∙ l .inv .3),
     ))
     (⊎-elim
@@ -183,8 +193,8 @@ attempt-loop-again t c =
       rw (v .4, v .5) (l .inv .1),
       rw (v .4) (l .inv .2),
       rw (v .4, v .5)
-          (try-on _ _ _ _ _ _ _ _ y (grow (a .at .slot) (a .at .depth) (l .place)) _ _ _ (r .before .loop-test .taken) (eq-eqb _ 0 (sym (r .refusal-at .ensures) ∙ v .0 .taken)) refl refl
-          (last-none (rulesOf (a .ask .plan) (now (a .events)) (now (a .readings))) (l .on) (a .ask .from) (a .at .depth + 1) y (grow (a .at .slot) (a .at .depth) (l .place)) _ _ _ (omega (arith, v .1 .taken)) (sym (v .2 .ensures) ∙ v .3 .left))
+          (try-on _ _ _ _ _ _ _ _ y (grow (a .at .slot) (a .at .depth) (l .place)) _ _ _ (c .before .before .before .loop-test .taken) (eq-eqb _ 0 (sym told ∙ v .0 .taken)) refl refl
+          (last-none (rulesOf (a .ask .plan) (now (a .events)) (now (a .readings))) (l .on) (a .ask .from) (a .at .depth + 1) y (grow (a .at .slot) (a .at .depth) (l .place)) _ _ _ (omega (arith, v .1 .taken)) (sym (v .2 .ensures ∙ ap (ends (l .on) (a .ask .plan) (now (a .readings))) (tried-next (a .ask .plan) (unpacked (a .x)) (now (a .events)) (l .place) is (sym told ∙ v .0 .taken) refl)) ∙ v .3 .left))
           _ refl refl ∙ l .inv .3),
     ))
     (⊎-elim
@@ -194,11 +204,11 @@ attempt-loop-again t c =
       rw (v .9, v .10) (v .5 .ensures .1),
       rw (v .9) (omega (arith, l .inv .2)),
       rw (v .9, v .10)
-          (try-on _ _ _ _ _ _ _ _ y (v .2 .result) _ _ _ (r .before .loop-test .taken) (eq-eqb _ 0 (sym (r .refusal-at .ensures) ∙ v .0 .taken)) refl (v .2 .ensures)
-          (v .5 .ensures .0 ∙ ap (λ (s : Situation). explored (a .ask) (now (a .events)) (now (a .readings)) s node (l .room)) (v .3 .ensures))
+          (try-on _ _ _ _ _ _ _ _ y (v .2 .result) _ _ _ (c .before .before .before .loop-test .taken) (eq-eqb _ 0 (sym told ∙ v .0 .taken)) refl (v .2 .ensures)
+          (v .5 .ensures .0 ∙ ap (λ (s : Situation). explored (a .ask) (now (a .events)) (now (a .readings)) s node (l .room)) (tried-next (a .ask .plan) (unpacked (a .x)) (now (a .events)) (l .place) is (sym told ∙ v .0 .taken) (v .3 .ensures)))
           _ (v .8 .left) refl ∙ l .inv .3),
     ))
-    (λ v. (omega arith, rw (v .1, v .2) (l .inv .1), rw (v .1) (l .inv .2), rw (v .1, v .2) (try-refused _ _ _ _ _ _ _ _ _ (r .before .loop-test .taken) (ne-eqb _ 0 (λ z. v .0 .left (r .refusal-at .ensures ∙ z))) refl ∙ l .inv .3)))))
+    (λ v. (omega arith, rw (v .1, v .2) (l .inv .1), rw (v .1) (l .inv .2), rw (v .1, v .2) (try-refused _ _ _ _ _ _ _ _ _ (c .before .before .before .loop-test .taken) (ne-eqb _ 0 (λ z. v .0 .left (told ∙ z))) refl ∙ l .inv .3)))))
     (c .if1 .came)
 
 attempt-same-length-3 : (t : ℕ) → attempt-lts.Need-same-length-3 (attempt-calls t) (attempt-at t) attempt.Post attempt-Inv-loop attempt-μ-loop
@@ -253,16 +263,17 @@ pub +attempt+explore-spec : {M : Type 1} → statement M
     attempt-μ-loop
     (attempt-start-of-requires t)
     (attempt-loop-holds t)
-    (attempt-refusal-at-requires t)
+    (attempt-event-at-requires t)
+    (attempt-own-refusal-requires t)
     (attempt-ends-answer-requires t)
     (attempt-grow-slot-requires t)
     (attempt-put-slot-requires t)
     (attempt-same-length t)
     (attempt-returns t)
     (attempt-grow-slot-requires-2 t)
-    (attempt-add-t30 t)
-    (attempt-sub-t31 t)
-    (attempt-reached-at-requires t)
+    (attempt-add-t31 t)
+    (attempt-sub-t32 t)
+    (attempt-next-requires t)
     (attempt-explore-requires t)
     (attempt-same-length-2 t)
     (attempt-returns-2 t)

@@ -8,9 +8,8 @@ use Rattle.engine.proofs.ends_answer.Tie as tie
 
 returns-3 : tie.Need-returns-3
 returns-3 c =
-    let i = c .before .before in
-    let a = i .before .before .before .before .args in
-    rw (i .before .if1 .left) (c .all-hold .ensures ∙ ap (all-hold (a .ask .plan) (now (a .readings))) (c .before .reached-at .ensures))
+    let a = c .before .before .before .before .before .args in
+    rw (c .before .before .before .if1 .left) (c .all-hold .ensures ∙ ap (all-hold (a .ask .plan) (now (a .readings))) (c .before .next .ensures))
 
 pub ends-answer-spec : {M : Type 1} → statement M
 ends-answer-spec =

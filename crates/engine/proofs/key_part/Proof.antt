@@ -8,7 +8,7 @@ use Rattle.engine.proofs.key_part.Tie as tie
 explore-requires : tie.Need-explore-requires
 explore-requires c κs =
     let a = c .before .before .before .before .before in
-    (omega arith, (omega (arith, a .pre .0), (a .pre .1 .1, c .before .wanted-of .ensures)))
+    (omega arith, (omega (arith, a .pre .0), (a .pre .1 .1 .0, (a .pre .1 .1 .1, c .before .wanted-of .ensures))))
 
 returns : tie.Need-returns
 returns c =

@@ -4,4 +4,10 @@ use Rattle.events.proofs.apply.Statement.{statement}
 use Rattle.events.proofs.apply.Tie as tie
 
 pub apply-spec : {M : Type 1} → statement M
-apply-spec = tie.close (tie.spec (λ c κs. search needs) (λ c. rw (← c .before .judged .ensures, ne-eqb _ _ (c .if1 .taken))) (λ c κs. search needs) (λ c. rw (← c .before .before .judged .ensures, eq-eqb _ _ (c .before .if1 .left)) (c .step .ensures)))
+apply-spec =
+    tie.close
+    (tie.spec
+    (λ c κs. search needs)
+    (λ c. rw (← c .before .judged .ensures, ne-eqb _ _ (c .if1 .taken)))
+    (λ c κs. search needs)
+    (λ c. rw (← c .before .before .judged .ensures, eq-eqb _ _ (c .before .if1 .left)) (c .step .ensures)))

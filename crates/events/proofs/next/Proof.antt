@@ -1,15 +1,10 @@
--- Each arm is the row of its code. Assumes nothing.
-use Prim.Native.Nat.{ℕ}
-use mathlib.Core.Path.{sym, ap, ap₂, _∙_}
-use Rattle.block.specs.Checks.{effect}
-use Rattle.block.specs.Line.{section-of, direction-of}
-use Rattle.block.specs.Events.{bslb, bslb-off, freed}
-use Rattle.block.specs.declared.line.Direction.{Direction}
-use Rattle.packed.specs.Packed.{of-words, unpacked}
-use Rattle.events.specs.Apply.{reached}
-use Rattle.events.proofs.EitherView.{bslb-alike, bslb-off-alike, freed-alike, link-lost-alike, link-restored-alike}
-use Rattle.events.proofs.ByRow.{led-by, led-of-either}
-use Rattle.events.proofs.UnknownCode.{not-known, leads-nowhere}
+use mathlib.Core.Path.{ap, _∙_}
+use Rattle.block.specs.Table.{section, Sobb, Cobb, Afbli, Afble, Dafbl, Bilc, Dilc, Bslg, BslgOff, Bslb, BslbOff, Reminder, ReminderOff, ExitNormal, ExitSpecial, ExitReleased, Entry, EntryReleased, Occupied, Freed, LinkLost, LinkRestored}
+use Rattle.block.specs.Apply.{leads, led-at, spot-named}
+use Rattle.block.specs.declared.event.Spot.{Spot}
+use Rattle.situation.specs.Packed.{unpacked}
+use Rattle.events.proofs.EitherView.{bslb-led, bslb-off-led, freed-led}
+use Rattle.events.proofs.ByCode.{led-as, led-seen, led-unknown}
 use borrow.Author.Needs.{needs}
 use Rattle.events.proofs.next.Statement.{statement}
 use Rattle.events.proofs.next.Tie as tie
@@ -61,49 +56,26 @@ next-spec =
     (λ c κs. search needs)
     (λ c κs. search needs)
     (λ c κs. search needs)
-    (λ c κs. search needs)
-    (λ c κs. search needs)
-    (λ c κs. search needs)
-    (λ c κs. search needs)
-    (λ c κs. search needs)
-    (λ c κs. search needs)
-    (λ c κs. search needs)
-    (λ c κs. search needs)
-    (λ c κs. search needs)
-    (λ c κs. search needs)
-    (λ c κs. search needs)
-    (λ c κs. search needs)
-    (λ c κs. search needs)
-    (λ c κs. search needs)
-    (λ c κs. search needs)
-    (λ c κs. search needs)
-    (λ c κs. search needs)
-    (λ c κs. search needs)
-    (λ c κs. search needs)
-    (λ c κs. search needs)
-    (λ c κs. search needs)
-    (λ c κs. search needs)
-    (λ c κs. search needs)
-    (λ c. let a = c .before .before .before .before .before .before .args in led-by (a .plan) (unpacked (of-words (a .line) (a .own) (a .other))) (a .arg) (c .before .before .before .match .keys1) (c .before .before .before .before .before .station-named .ensures) (c .before .before .before .before .seen-from .ensures) (c .before .before .sobb .ensures) (c .before .pending-settled .ensures) (c .seen-from2 .ensures))
-    (λ c. let a = c .before .before .before .before .before .before .args in led-by (a .plan) (unpacked (of-words (a .line) (a .own) (a .other))) (a .arg) (c .before .before .before .match .keys2) (c .before .before .before .before .before .station-named .ensures) (c .before .before .before .before .seen-from .ensures) (c .before .before .cobb .ensures) (c .before .pending-settled2 .ensures) (c .seen-from3 .ensures))
-    (λ c. let a = c .before .before .before .before .before .before .args in led-by (a .plan) (unpacked (of-words (a .line) (a .own) (a .other))) (a .arg) (c .before .before .before .match .keys3) (c .before .before .before .before .before .station-named .ensures) (c .before .before .before .before .seen-from .ensures) (c .before .before .afbli .ensures) (c .before .pending-settled3 .ensures) (c .seen-from4 .ensures))
-    (λ c. let a = c .before .before .before .before .before .before .args in led-by (a .plan) (unpacked (of-words (a .line) (a .own) (a .other))) (a .arg) (c .before .before .before .match .keys4) (c .before .before .before .before .before .station-named .ensures) (c .before .before .before .before .seen-from .ensures) (c .before .before .afble .ensures) (c .before .pending-settled4 .ensures) (c .seen-from5 .ensures))
-    (λ c. let a = c .before .before .before .before .before .before .args in led-by (a .plan) (unpacked (of-words (a .line) (a .own) (a .other))) (a .arg) (c .before .before .before .match .keys5) (c .before .before .before .before .before .station-named .ensures) (c .before .before .before .before .seen-from .ensures) (c .before .before .dafbl .ensures) (c .before .pending-settled5 .ensures) (c .seen-from6 .ensures))
-    (λ c. let a = c .before .before .before .before .before .before .args in led-by (a .plan) (unpacked (of-words (a .line) (a .own) (a .other))) (a .arg) (c .before .before .before .match .keys6) (c .before .before .before .before .before .station-named .ensures) (c .before .before .before .before .seen-from .ensures) (c .before .before .bilc .ensures) (c .before .pending-settled6 .ensures) (c .seen-from7 .ensures))
-    (λ c. let a = c .before .before .before .before .before .before .args in led-by (a .plan) (unpacked (of-words (a .line) (a .own) (a .other))) (a .arg) (c .before .before .before .match .keys7) (c .before .before .before .before .before .station-named .ensures) (c .before .before .before .before .seen-from .ensures) (c .before .before .dilc .ensures) (c .before .pending-settled7 .ensures) (c .seen-from8 .ensures))
-    (λ c. let a = c .before .before .before .before .before .before .args in led-by (a .plan) (unpacked (of-words (a .line) (a .own) (a .other))) (a .arg) (c .before .before .before .match .keys8) (c .before .before .before .before .before .station-named .ensures) (c .before .before .before .before .seen-from .ensures) (c .before .before .bslg .ensures) (c .before .pending-settled8 .ensures) (c .seen-from9 .ensures))
-    (λ c. let a = c .before .before .before .before .before .before .args in led-by (a .plan) (unpacked (of-words (a .line) (a .own) (a .other))) (a .arg) (c .before .before .before .match .keys9) (c .before .before .before .before .before .station-named .ensures) (c .before .before .before .before .seen-from .ensures) (c .before .before .bslg-off .ensures) (c .before .pending-settled9 .ensures) (c .seen-from10 .ensures))
-    (λ c. let a = c .before .before .before .before .before .before .before .args in led-of-either (a .plan) (unpacked (of-words (a .line) (a .own) (a .other))) (a .arg) (c .before .before .before .before .match .keys10) (bslb-alike (direction-of (a .arg)) (section-of (a .arg))) (c .before .bslb .ensures ∙ ap₂ (λ (d : Direction) (k : ℕ). effect (bslb (unpacked (of-words (a .line) (a .own) (a .other))) d k)) (c .before .before .before .direction-of .ensures) (c .before .before .section-of .ensures)) (c .pending-settled10 .ensures))
-    (λ c. let a = c .before .before .before .before .before .before .before .args in led-of-either (a .plan) (unpacked (of-words (a .line) (a .own) (a .other))) (a .arg) (c .before .before .before .before .match .keys11) (bslb-off-alike (direction-of (a .arg)) (section-of (a .arg))) (c .before .bslb-off .ensures ∙ ap₂ (λ (d : Direction) (k : ℕ). effect (bslb-off (unpacked (of-words (a .line) (a .own) (a .other))) d k)) (c .before .before .before .direction-of2 .ensures) (c .before .before .section-of2 .ensures)) (c .pending-settled11 .ensures))
-    (λ c. let a = c .before .before .before .before .before .before .args in led-by (a .plan) (unpacked (of-words (a .line) (a .own) (a .other))) (a .arg) (c .before .before .before .match .keys12) (c .before .before .before .before .before .station-named .ensures) (c .before .before .before .before .seen-from .ensures) (c .before .before .reminder .ensures) (c .before .pending-settled12 .ensures) (c .seen-from11 .ensures))
-    (λ c. let a = c .before .before .before .before .before .before .args in led-by (a .plan) (unpacked (of-words (a .line) (a .own) (a .other))) (a .arg) (c .before .before .before .match .keys13) (c .before .before .before .before .before .station-named .ensures) (c .before .before .before .before .seen-from .ensures) (c .before .before .reminder-off .ensures) (c .before .pending-settled13 .ensures) (c .seen-from12 .ensures))
-    (λ c. let a = c .before .before .before .before .before .before .args in led-by (a .plan) (unpacked (of-words (a .line) (a .own) (a .other))) (a .arg) (c .before .before .before .match .keys14) (c .before .before .before .before .before .station-named .ensures) (c .before .before .before .before .seen-from .ensures) (c .before .before .exit-normal .ensures) (c .before .pending-settled14 .ensures) (c .seen-from13 .ensures))
-    (λ c. let a = c .before .before .before .before .before .before .args in led-by (a .plan) (unpacked (of-words (a .line) (a .own) (a .other))) (a .arg) (c .before .before .before .match .keys15) (c .before .before .before .before .before .station-named .ensures) (c .before .before .before .before .seen-from .ensures) (c .before .before .exit-special .ensures) (c .before .pending-settled15 .ensures) (c .seen-from14 .ensures))
-    (λ c. let a = c .before .before .before .before .before .before .args in led-by (a .plan) (unpacked (of-words (a .line) (a .own) (a .other))) (a .arg) (c .before .before .before .match .keys16) (c .before .before .before .before .before .station-named .ensures) (c .before .before .before .before .seen-from .ensures) (c .before .before .exit-released .ensures) (c .before .pending-settled16 .ensures) (c .seen-from15 .ensures))
-    (λ c. let a = c .before .before .before .before .before .before .args in led-by (a .plan) (unpacked (of-words (a .line) (a .own) (a .other))) (a .arg) (c .before .before .before .match .keys17) (c .before .before .before .before .before .station-named .ensures) (c .before .before .before .before .seen-from .ensures) (c .before .before .entry .ensures) (c .before .pending-settled17 .ensures) (c .seen-from16 .ensures))
-    (λ c. let a = c .before .before .before .before .before .before .args in led-by (a .plan) (unpacked (of-words (a .line) (a .own) (a .other))) (a .arg) (c .before .before .before .match .keys18) (c .before .before .before .before .before .station-named .ensures) (c .before .before .before .before .seen-from .ensures) (c .before .before .entry-released .ensures) (c .before .pending-settled18 .ensures) (c .seen-from17 .ensures))
-    (λ c. let a = c .before .before .before .before .args in c .occupied-at .ensures ∙ ap (λ (n : ℕ). reached (a .plan) (unpacked (of-words (a .line) (a .own) (a .other))) n (a .arg)) (sym (c .before .match .keys19)))
-    (λ c. let a = c .before .before .before .before .before .before .args in led-of-either (a .plan) (unpacked (of-words (a .line) (a .own) (a .other))) (a .arg) (c .before .before .before .match .keys20) (freed-alike (section-of (a .arg))) (c .before .freed .ensures ∙ ap (λ (k : ℕ). effect (freed (unpacked (of-words (a .line) (a .own) (a .other))) k)) (c .before .before .section-of3 .ensures)) (c .pending-settled19 .ensures))
-    (λ c. let a = c .before .before .before .before .before .args in led-of-either (a .plan) (unpacked (of-words (a .line) (a .own) (a .other))) (a .arg) (c .before .before .match .keys21) link-lost-alike (c .before .link-lost .ensures) (c .pending-settled20 .ensures))
-    (λ c. let a = c .before .before .before .before .before .args in led-of-either (a .plan) (unpacked (of-words (a .line) (a .own) (a .other))) (a .arg) (c .before .before .match .keys22) link-restored-alike (c .before .link-restored .ensures) (c .pending-settled21 .ensures))
-    (λ c. let a = c .before .before .before .args in sym (leads-nowhere (a .plan) (unpacked (of-words (a .line) (a .own) (a .other))) (a .code) (a .arg) (not-known (a .code) (c .match .rest)))))
+    (λ c. let a = c .before .before .before .before .before .before .args in led-as (a .plan) (unpacked (a .x)) (a .event) (c .before .before .match .keys1) (led-seen (a .plan) (unpacked (a .x)) (a .event) (c .before .before .before .before .before .at-station .ensures) (c .before .before .before .seen-from .ensures) Sobb (c .before .sobb .ensures) (c .seen-from2 .ensures)))
+    (λ c. let a = c .before .before .before .before .before .before .args in led-as (a .plan) (unpacked (a .x)) (a .event) (c .before .before .match .keys2) (led-seen (a .plan) (unpacked (a .x)) (a .event) (c .before .before .before .before .before .at-station .ensures) (c .before .before .before .seen-from .ensures) Cobb (c .before .cobb .ensures) (c .seen-from3 .ensures)))
+    (λ c. let a = c .before .before .before .before .before .before .args in led-as (a .plan) (unpacked (a .x)) (a .event) (c .before .before .match .keys3) (led-seen (a .plan) (unpacked (a .x)) (a .event) (c .before .before .before .before .before .at-station .ensures) (c .before .before .before .seen-from .ensures) Afbli (c .before .afbli .ensures) (c .seen-from4 .ensures)))
+    (λ c. let a = c .before .before .before .before .before .before .args in led-as (a .plan) (unpacked (a .x)) (a .event) (c .before .before .match .keys4) (led-seen (a .plan) (unpacked (a .x)) (a .event) (c .before .before .before .before .before .at-station .ensures) (c .before .before .before .seen-from .ensures) Afble (c .before .afble .ensures) (c .seen-from5 .ensures)))
+    (λ c. let a = c .before .before .before .before .before .before .args in led-as (a .plan) (unpacked (a .x)) (a .event) (c .before .before .match .keys5) (led-seen (a .plan) (unpacked (a .x)) (a .event) (c .before .before .before .before .before .at-station .ensures) (c .before .before .before .seen-from .ensures) Dafbl (c .before .dafbl .ensures) (c .seen-from6 .ensures)))
+    (λ c. let a = c .before .before .before .before .before .before .args in led-as (a .plan) (unpacked (a .x)) (a .event) (c .before .before .match .keys6) (led-seen (a .plan) (unpacked (a .x)) (a .event) (c .before .before .before .before .before .at-station .ensures) (c .before .before .before .seen-from .ensures) Bilc (c .before .bilc .ensures) (c .seen-from7 .ensures)))
+    (λ c. let a = c .before .before .before .before .before .before .args in led-as (a .plan) (unpacked (a .x)) (a .event) (c .before .before .match .keys7) (led-seen (a .plan) (unpacked (a .x)) (a .event) (c .before .before .before .before .before .at-station .ensures) (c .before .before .before .seen-from .ensures) Dilc (c .before .dilc .ensures) (c .seen-from8 .ensures)))
+    (λ c. let a = c .before .before .before .before .before .before .args in led-as (a .plan) (unpacked (a .x)) (a .event) (c .before .before .match .keys8) (led-seen (a .plan) (unpacked (a .x)) (a .event) (c .before .before .before .before .before .at-station .ensures) (c .before .before .before .seen-from .ensures) Bslg (c .before .bslg .ensures) (c .seen-from9 .ensures)))
+    (λ c. let a = c .before .before .before .before .before .before .args in led-as (a .plan) (unpacked (a .x)) (a .event) (c .before .before .match .keys9) (led-seen (a .plan) (unpacked (a .x)) (a .event) (c .before .before .before .before .before .at-station .ensures) (c .before .before .before .seen-from .ensures) BslgOff (c .before .bslg-off .ensures) (c .seen-from10 .ensures)))
+    (λ c. let a = c .before .before .before .before .before .args in led-as (a .plan) (unpacked (a .x)) (a .event) (c .before .match .keys10) (bslb-led (spot-named (a .plan) section (a .event .argument)) (unpacked (a .x)) (c .bslb .ensures ∙ ap (λ (s : Spot). leads Bslb s (unpacked (a .x))) (c .before .before .before .at-owner .ensures))))
+    (λ c. let a = c .before .before .before .before .before .args in led-as (a .plan) (unpacked (a .x)) (a .event) (c .before .match .keys11) (bslb-off-led (spot-named (a .plan) section (a .event .argument)) (unpacked (a .x)) (c .bslb-off .ensures ∙ ap (λ (s : Spot). leads BslbOff s (unpacked (a .x))) (c .before .before .before .at-owner .ensures))))
+    (λ c. let a = c .before .before .before .before .before .before .args in led-as (a .plan) (unpacked (a .x)) (a .event) (c .before .before .match .keys12) (led-seen (a .plan) (unpacked (a .x)) (a .event) (c .before .before .before .before .before .at-station .ensures) (c .before .before .before .seen-from .ensures) Reminder (c .before .reminder .ensures) (c .seen-from11 .ensures)))
+    (λ c. let a = c .before .before .before .before .before .before .args in led-as (a .plan) (unpacked (a .x)) (a .event) (c .before .before .match .keys13) (led-seen (a .plan) (unpacked (a .x)) (a .event) (c .before .before .before .before .before .at-station .ensures) (c .before .before .before .seen-from .ensures) ReminderOff (c .before .reminder-off .ensures) (c .seen-from12 .ensures)))
+    (λ c. let a = c .before .before .before .before .before .before .args in led-as (a .plan) (unpacked (a .x)) (a .event) (c .before .before .match .keys14) (led-seen (a .plan) (unpacked (a .x)) (a .event) (c .before .before .before .before .before .at-station .ensures) (c .before .before .before .seen-from .ensures) ExitNormal (c .before .exit-normal .ensures) (c .seen-from13 .ensures)))
+    (λ c. let a = c .before .before .before .before .before .before .args in led-as (a .plan) (unpacked (a .x)) (a .event) (c .before .before .match .keys15) (led-seen (a .plan) (unpacked (a .x)) (a .event) (c .before .before .before .before .before .at-station .ensures) (c .before .before .before .seen-from .ensures) ExitSpecial (c .before .exit-special .ensures) (c .seen-from14 .ensures)))
+    (λ c. let a = c .before .before .before .before .before .before .args in led-as (a .plan) (unpacked (a .x)) (a .event) (c .before .before .match .keys16) (led-seen (a .plan) (unpacked (a .x)) (a .event) (c .before .before .before .before .before .at-station .ensures) (c .before .before .before .seen-from .ensures) ExitReleased (c .before .exit-released .ensures) (c .seen-from15 .ensures)))
+    (λ c. let a = c .before .before .before .before .before .before .args in led-as (a .plan) (unpacked (a .x)) (a .event) (c .before .before .match .keys17) (led-seen (a .plan) (unpacked (a .x)) (a .event) (c .before .before .before .before .before .at-station .ensures) (c .before .before .before .seen-from .ensures) Entry (c .before .entry .ensures) (c .seen-from16 .ensures)))
+    (λ c. let a = c .before .before .before .before .before .before .args in led-as (a .plan) (unpacked (a .x)) (a .event) (c .before .before .match .keys18) (led-seen (a .plan) (unpacked (a .x)) (a .event) (c .before .before .before .before .before .at-station .ensures) (c .before .before .before .seen-from .ensures) EntryReleased (c .before .entry-released .ensures) (c .seen-from17 .ensures)))
+    (λ c. let a = c .before .before .before .before .before .args in led-as (a .plan) (unpacked (a .x)) (a .event) (c .before .match .keys19) (c .occupied-at .ensures ∙ ap (λ (s : Spot). led-at Occupied s (unpacked (a .x))) (c .before .before .before .at-owner .ensures)))
+    (λ c. let a = c .before .before .before .before .before .args in led-as (a .plan) (unpacked (a .x)) (a .event) (c .before .match .keys20) (freed-led (spot-named (a .plan) section (a .event .argument)) (unpacked (a .x)) (c .freed .ensures ∙ ap (λ (s : Spot). leads Freed s (unpacked (a .x))) (c .before .before .before .at-owner .ensures))))
+    (λ c. let a = c .before .before .before .before .before .before .args in led-as (a .plan) (unpacked (a .x)) (a .event) (c .before .before .match .keys21) (led-seen (a .plan) (unpacked (a .x)) (a .event) (c .before .before .before .before .before .at-station .ensures) (c .before .before .before .seen-from .ensures) LinkLost (c .before .link-lost .ensures) (c .seen-from18 .ensures)))
+    (λ c. let a = c .before .before .before .before .before .before .args in led-as (a .plan) (unpacked (a .x)) (a .event) (c .before .before .match .keys22) (led-seen (a .plan) (unpacked (a .x)) (a .event) (c .before .before .before .before .before .at-station .ensures) (c .before .before .before .seen-from .ensures) LinkRestored (c .before .link-restored .ensures) (c .seen-from19 .ensures)))
+    (λ c. let a = c .before .before .before .before .args in led-unknown (a .plan) (unpacked (a .x)) (a .event) 22 tt (c .match .rest)))

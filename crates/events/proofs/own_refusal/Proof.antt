@@ -1,33 +1,13 @@
--- Each arm is the row of its code. Assumes nothing.
-use Prim.Native.Nat.{ℕ}
-use mathlib.Core.Path.{sym, ap, ap₂, _∙_}
-use Rattle.block.specs.Checks.{refusal}
-use Rattle.block.specs.Line.{section-of, direction-of, is-first}
-use Rattle.block.specs.Situation.{line-free}
-use Rattle.block.specs.Expected.{expected}
-use Rattle.block.specs.Events.{bslb, bslb-off, freed, occupied}
-use Rattle.block.specs.declared.line.Direction.{Direction}
-use Rattle.packed.specs.Packed.{of-words, unpacked}
-use Rattle.events.specs.Apply.{named, place, own-refusal}
-use Rattle.events.proofs.EitherView.{bslb-alike, bslb-off-alike, freed-alike, link-lost-alike, link-restored-alike, occupied-refused-alike}
-use Rattle.events.proofs.ByRow.{refused-by, refused-of-either}
-use Rattle.events.proofs.UnknownCode.{not-known, refused-unknown}
+use mathlib.Core.Path.{ap, _∙_}
+use Rattle.block.specs.Table.{section, Sobb, Cobb, Afbli, Afble, Dafbl, Bilc, Dilc, Bslg, BslgOff, Bslb, BslbOff, Reminder, ReminderOff, ExitNormal, ExitSpecial, ExitReleased, Entry, EntryReleased, Occupied, Freed, LinkLost, LinkRestored}
+use Rattle.block.specs.Apply.{refuses, spot-named}
+use Rattle.block.specs.declared.event.Spot.{Spot}
+use Rattle.situation.specs.Packed.{unpacked}
+use Rattle.events.proofs.EitherView.{bslb-refused, bslb-off-refused, occupied-refused, freed-refused}
+use Rattle.events.proofs.ByCode.{refused-as, refused-seen, refused-unknown}
 use borrow.Author.Needs.{needs}
 use Rattle.events.proofs.own_refusal.Statement.{statement}
 use Rattle.events.proofs.own_refusal.Tie as tie
-
--- a section becoming occupied: 5 alone is checked, whoever sees it
-returns-19 : tie.Need-returns-19
-returns-19 c =
-    let a = c .before .before .before .before .before .args in
-    let x = unpacked (of-words (a .line) (a .own) (a .other)) in
-    let at = place (a .plan) 19 (a .arg) in
-    let first = is-first (at .plan) (at .own) (at .section) in
-    let foreseen = expected (at .plan) (at .own) x (at .section) in
-    c .occupied-refusal .ensures foreseen first
-    ∙ ap (λ (k : ℕ). refusal (occupied x (line-free x) k foreseen first)) (c .before .section-of3 .ensures)
-    ∙ sym (occupied-refused-alike (named (a .plan) 19 (a .arg)) at x)
-    ∙ ap (λ (n : ℕ). own-refusal (a .plan) x n (a .arg)) (sym (c .before .before .match .keys19))
 
 pub own-refusal-spec : {M : Type 1} → statement M
 own-refusal-spec =
@@ -58,31 +38,26 @@ own-refusal-spec =
     (λ c κs. search needs)
     (λ c κs. search needs)
     (λ c κs. search needs)
-    (λ c κs. search needs)
-    (λ c κs. search needs)
-    (λ c κs. search needs)
-    (λ c κs. search needs)
-    (λ c κs. search needs)
-    (λ c. let a = c .before .before .before .before .args in refused-by (a .plan) (unpacked (of-words (a .line) (a .own) (a .other))) (a .arg) (c .before .match .keys1) (c .before .before .before .station-named .ensures) (c .before .before .seen-from .ensures) (c .sobb-refusal .ensures))
-    (λ c. let a = c .before .before .before .before .args in refused-by (a .plan) (unpacked (of-words (a .line) (a .own) (a .other))) (a .arg) (c .before .match .keys2) (c .before .before .before .station-named .ensures) (c .before .before .seen-from .ensures) (c .cobb-refusal .ensures))
-    (λ c. let a = c .before .before .before .before .args in refused-by (a .plan) (unpacked (of-words (a .line) (a .own) (a .other))) (a .arg) (c .before .match .keys3) (c .before .before .before .station-named .ensures) (c .before .before .seen-from .ensures) (c .afbli-refusal .ensures))
-    (λ c. let a = c .before .before .before .before .args in refused-by (a .plan) (unpacked (of-words (a .line) (a .own) (a .other))) (a .arg) (c .before .match .keys4) (c .before .before .before .station-named .ensures) (c .before .before .seen-from .ensures) (c .afble-refusal .ensures))
-    (λ c. let a = c .before .before .before .before .args in refused-by (a .plan) (unpacked (of-words (a .line) (a .own) (a .other))) (a .arg) (c .before .match .keys5) (c .before .before .before .station-named .ensures) (c .before .before .seen-from .ensures) (c .dafbl-refusal .ensures))
-    (λ c. let a = c .before .before .before .before .args in refused-by (a .plan) (unpacked (of-words (a .line) (a .own) (a .other))) (a .arg) (c .before .match .keys6) (c .before .before .before .station-named .ensures) (c .before .before .seen-from .ensures) (c .bilc-refusal .ensures))
-    (λ c. let a = c .before .before .before .before .args in refused-by (a .plan) (unpacked (of-words (a .line) (a .own) (a .other))) (a .arg) (c .before .match .keys7) (c .before .before .before .station-named .ensures) (c .before .before .seen-from .ensures) (c .dilc-refusal .ensures))
-    (λ c. let a = c .before .before .before .before .args in refused-by (a .plan) (unpacked (of-words (a .line) (a .own) (a .other))) (a .arg) (c .before .match .keys8) (c .before .before .before .station-named .ensures) (c .before .before .seen-from .ensures) (c .bslg-refusal .ensures))
-    (λ c. let a = c .before .before .before .before .args in refused-by (a .plan) (unpacked (of-words (a .line) (a .own) (a .other))) (a .arg) (c .before .match .keys9) (c .before .before .before .station-named .ensures) (c .before .before .seen-from .ensures) (c .bslg-off-refusal .ensures))
-    (λ c. let a = c .before .before .before .before .before .before .args in refused-of-either (a .plan) (unpacked (of-words (a .line) (a .own) (a .other))) (a .arg) (c .before .before .before .match .keys10) (bslb-alike (direction-of (a .arg)) (section-of (a .arg))) (c .bslb-refusal .ensures ∙ ap₂ (λ (d : Direction) (k : ℕ). refusal (bslb (unpacked (of-words (a .line) (a .own) (a .other))) d k)) (c .before .before .direction-of .ensures) (c .before .section-of .ensures)))
-    (λ c. let a = c .before .before .before .before .before .before .args in refused-of-either (a .plan) (unpacked (of-words (a .line) (a .own) (a .other))) (a .arg) (c .before .before .before .match .keys11) (bslb-off-alike (direction-of (a .arg)) (section-of (a .arg))) (c .bslb-off-refusal .ensures ∙ ap₂ (λ (d : Direction) (k : ℕ). refusal (bslb-off (unpacked (of-words (a .line) (a .own) (a .other))) d k)) (c .before .before .direction-of2 .ensures) (c .before .section-of2 .ensures)))
-    (λ c. let a = c .before .before .before .before .args in refused-by (a .plan) (unpacked (of-words (a .line) (a .own) (a .other))) (a .arg) (c .before .match .keys12) (c .before .before .before .station-named .ensures) (c .before .before .seen-from .ensures) (c .reminder-refusal .ensures))
-    (λ c. let a = c .before .before .before .before .args in refused-by (a .plan) (unpacked (of-words (a .line) (a .own) (a .other))) (a .arg) (c .before .match .keys13) (c .before .before .before .station-named .ensures) (c .before .before .seen-from .ensures) (c .reminder-off-refusal .ensures))
-    (λ c. let a = c .before .before .before .before .args in refused-by (a .plan) (unpacked (of-words (a .line) (a .own) (a .other))) (a .arg) (c .before .match .keys14) (c .before .before .before .station-named .ensures) (c .before .before .seen-from .ensures) (c .exit-normal-refusal .ensures))
-    (λ c. let a = c .before .before .before .before .args in refused-by (a .plan) (unpacked (of-words (a .line) (a .own) (a .other))) (a .arg) (c .before .match .keys15) (c .before .before .before .station-named .ensures) (c .before .before .seen-from .ensures) (c .exit-special-refusal .ensures))
-    (λ c. let a = c .before .before .before .before .args in refused-by (a .plan) (unpacked (of-words (a .line) (a .own) (a .other))) (a .arg) (c .before .match .keys16) (c .before .before .before .station-named .ensures) (c .before .before .seen-from .ensures) (c .exit-released-refusal .ensures))
-    (λ c. let a = c .before .before .before .before .args in refused-by (a .plan) (unpacked (of-words (a .line) (a .own) (a .other))) (a .arg) (c .before .match .keys17) (c .before .before .before .station-named .ensures) (c .before .before .seen-from .ensures) (c .entry-refusal .ensures))
-    (λ c. let a = c .before .before .before .before .args in refused-by (a .plan) (unpacked (of-words (a .line) (a .own) (a .other))) (a .arg) (c .before .match .keys18) (c .before .before .before .station-named .ensures) (c .before .before .seen-from .ensures) (c .entry-released-refusal .ensures))
-    returns-19
-    (λ c. let a = c .before .before .before .before .before .args in refused-of-either (a .plan) (unpacked (of-words (a .line) (a .own) (a .other))) (a .arg) (c .before .before .match .keys20) (freed-alike (section-of (a .arg))) (c .freed-refusal .ensures ∙ ap (λ (k : ℕ). refusal (freed (unpacked (of-words (a .line) (a .own) (a .other))) k)) (c .before .section-of4 .ensures)))
-    (λ c. let a = c .before .before .before .before .args in refused-of-either (a .plan) (unpacked (of-words (a .line) (a .own) (a .other))) (a .arg) (c .before .match .keys21) link-lost-alike (c .link-lost-refusal .ensures))
-    (λ c. let a = c .before .before .before .before .args in refused-of-either (a .plan) (unpacked (of-words (a .line) (a .own) (a .other))) (a .arg) (c .before .match .keys22) link-restored-alike (c .link-restored-refusal .ensures))
-    (λ c. let a = c .before .before .before .args in sym (refused-unknown (a .plan) (unpacked (of-words (a .line) (a .own) (a .other))) (a .code) (a .arg) (not-known (a .code) (c .match .rest)))))
+    (λ c. let a = c .before .before .before .before .before .args in refused-as (a .plan) (unpacked (a .x)) (a .event) (c .before .match .keys1) (refused-seen (a .plan) (unpacked (a .x)) (a .event) (c .before .before .before .before .at-station .ensures) (c .before .before .seen-from .ensures) Sobb (c .sobb-refusal .ensures)))
+    (λ c. let a = c .before .before .before .before .before .args in refused-as (a .plan) (unpacked (a .x)) (a .event) (c .before .match .keys2) (refused-seen (a .plan) (unpacked (a .x)) (a .event) (c .before .before .before .before .at-station .ensures) (c .before .before .seen-from .ensures) Cobb (c .cobb-refusal .ensures)))
+    (λ c. let a = c .before .before .before .before .before .args in refused-as (a .plan) (unpacked (a .x)) (a .event) (c .before .match .keys3) (refused-seen (a .plan) (unpacked (a .x)) (a .event) (c .before .before .before .before .at-station .ensures) (c .before .before .seen-from .ensures) Afbli (c .afbli-refusal .ensures)))
+    (λ c. let a = c .before .before .before .before .before .args in refused-as (a .plan) (unpacked (a .x)) (a .event) (c .before .match .keys4) (refused-seen (a .plan) (unpacked (a .x)) (a .event) (c .before .before .before .before .at-station .ensures) (c .before .before .seen-from .ensures) Afble (c .afble-refusal .ensures)))
+    (λ c. let a = c .before .before .before .before .before .args in refused-as (a .plan) (unpacked (a .x)) (a .event) (c .before .match .keys5) (refused-seen (a .plan) (unpacked (a .x)) (a .event) (c .before .before .before .before .at-station .ensures) (c .before .before .seen-from .ensures) Dafbl (c .dafbl-refusal .ensures)))
+    (λ c. let a = c .before .before .before .before .before .args in refused-as (a .plan) (unpacked (a .x)) (a .event) (c .before .match .keys6) (refused-seen (a .plan) (unpacked (a .x)) (a .event) (c .before .before .before .before .at-station .ensures) (c .before .before .seen-from .ensures) Bilc (c .bilc-refusal .ensures)))
+    (λ c. let a = c .before .before .before .before .before .args in refused-as (a .plan) (unpacked (a .x)) (a .event) (c .before .match .keys7) (refused-seen (a .plan) (unpacked (a .x)) (a .event) (c .before .before .before .before .at-station .ensures) (c .before .before .seen-from .ensures) Dilc (c .dilc-refusal .ensures)))
+    (λ c. let a = c .before .before .before .before .before .args in refused-as (a .plan) (unpacked (a .x)) (a .event) (c .before .match .keys8) (refused-seen (a .plan) (unpacked (a .x)) (a .event) (c .before .before .before .before .at-station .ensures) (c .before .before .seen-from .ensures) Bslg (c .bslg-refusal .ensures)))
+    (λ c. let a = c .before .before .before .before .before .args in refused-as (a .plan) (unpacked (a .x)) (a .event) (c .before .match .keys9) (refused-seen (a .plan) (unpacked (a .x)) (a .event) (c .before .before .before .before .at-station .ensures) (c .before .before .seen-from .ensures) BslgOff (c .bslg-off-refusal .ensures)))
+    (λ c. let a = c .before .before .before .before .before .args in refused-as (a .plan) (unpacked (a .x)) (a .event) (c .before .match .keys10) (bslb-refused (spot-named (a .plan) section (a .event .argument)) (unpacked (a .x)) (c .bslb-refusal .ensures ∙ ap (λ (s : Spot). refuses Bslb s (unpacked (a .x))) (c .before .before .before .at-owner .ensures))))
+    (λ c. let a = c .before .before .before .before .before .args in refused-as (a .plan) (unpacked (a .x)) (a .event) (c .before .match .keys11) (bslb-off-refused (spot-named (a .plan) section (a .event .argument)) (unpacked (a .x)) (c .bslb-off-refusal .ensures ∙ ap (λ (s : Spot). refuses BslbOff s (unpacked (a .x))) (c .before .before .before .at-owner .ensures))))
+    (λ c. let a = c .before .before .before .before .before .args in refused-as (a .plan) (unpacked (a .x)) (a .event) (c .before .match .keys12) (refused-seen (a .plan) (unpacked (a .x)) (a .event) (c .before .before .before .before .at-station .ensures) (c .before .before .seen-from .ensures) Reminder (c .reminder-refusal .ensures)))
+    (λ c. let a = c .before .before .before .before .before .args in refused-as (a .plan) (unpacked (a .x)) (a .event) (c .before .match .keys13) (refused-seen (a .plan) (unpacked (a .x)) (a .event) (c .before .before .before .before .at-station .ensures) (c .before .before .seen-from .ensures) ReminderOff (c .reminder-off-refusal .ensures)))
+    (λ c. let a = c .before .before .before .before .before .args in refused-as (a .plan) (unpacked (a .x)) (a .event) (c .before .match .keys14) (refused-seen (a .plan) (unpacked (a .x)) (a .event) (c .before .before .before .before .at-station .ensures) (c .before .before .seen-from .ensures) ExitNormal (c .exit-normal-refusal .ensures)))
+    (λ c. let a = c .before .before .before .before .before .args in refused-as (a .plan) (unpacked (a .x)) (a .event) (c .before .match .keys15) (refused-seen (a .plan) (unpacked (a .x)) (a .event) (c .before .before .before .before .at-station .ensures) (c .before .before .seen-from .ensures) ExitSpecial (c .exit-special-refusal .ensures)))
+    (λ c. let a = c .before .before .before .before .before .args in refused-as (a .plan) (unpacked (a .x)) (a .event) (c .before .match .keys16) (refused-seen (a .plan) (unpacked (a .x)) (a .event) (c .before .before .before .before .at-station .ensures) (c .before .before .seen-from .ensures) ExitReleased (c .exit-released-refusal .ensures)))
+    (λ c. let a = c .before .before .before .before .before .args in refused-as (a .plan) (unpacked (a .x)) (a .event) (c .before .match .keys17) (refused-seen (a .plan) (unpacked (a .x)) (a .event) (c .before .before .before .before .at-station .ensures) (c .before .before .seen-from .ensures) Entry (c .entry-refusal .ensures)))
+    (λ c. let a = c .before .before .before .before .before .args in refused-as (a .plan) (unpacked (a .x)) (a .event) (c .before .match .keys18) (refused-seen (a .plan) (unpacked (a .x)) (a .event) (c .before .before .before .before .at-station .ensures) (c .before .before .seen-from .ensures) EntryReleased (c .entry-released-refusal .ensures)))
+    (λ c. let a = c .before .before .before .before .before .args in refused-as (a .plan) (unpacked (a .x)) (a .event) (c .before .match .keys19) (occupied-refused (spot-named (a .plan) section (a .event .argument)) (unpacked (a .x)) (c .occupied-refusal .ensures ∙ ap (λ (s : Spot). refuses Occupied s (unpacked (a .x))) (c .before .before .before .at-owner .ensures))))
+    (λ c. let a = c .before .before .before .before .before .args in refused-as (a .plan) (unpacked (a .x)) (a .event) (c .before .match .keys20) (freed-refused (spot-named (a .plan) section (a .event .argument)) (unpacked (a .x)) (c .freed-refusal .ensures ∙ ap (λ (s : Spot). refuses Freed s (unpacked (a .x))) (c .before .before .before .at-owner .ensures))))
+    (λ c. let a = c .before .before .before .before .before .args in refused-as (a .plan) (unpacked (a .x)) (a .event) (c .before .match .keys21) (refused-seen (a .plan) (unpacked (a .x)) (a .event) (c .before .before .before .before .at-station .ensures) (c .before .before .seen-from .ensures) LinkLost (c .link-lost-refusal .ensures)))
+    (λ c. let a = c .before .before .before .before .before .args in refused-as (a .plan) (unpacked (a .x)) (a .event) (c .before .match .keys22) (refused-seen (a .plan) (unpacked (a .x)) (a .event) (c .before .before .before .before .at-station .ensures) (c .before .before .seen-from .ensures) LinkRestored (c .link-restored-refusal .ensures)))
+    (λ c. let a = c .before .before .before .before .args in refused-unknown (a .plan) (unpacked (a .x)) (a .event) 22 tt (c .match .rest)))

@@ -1,23 +1,24 @@
-use mathlib.Core.Path.{sym, ap, _∙_}
-use mathlib.Core.Bool.{not}
-use Rattle.packed.specs.Packed.{unpacked}
-use Rattle.events.specs.Apply.{stepped}
-use Rattle.events.proofs.Steps.{acted-refusal}
+use mathlib.Core.Path.{sym, _∙_}
+use borrow.Author.Tests.{not-true, not-false}
+use Rattle.block.specs.Apply.{stepped}
+use Rattle.situation.specs.Packed.{unpacked}
+use Rattle.events.proofs.Steps.{judged-refusal}
 use borrow.Author.Needs.{needs}
 use Rattle.events.proofs.refusal.Statement.{statement}
 use Rattle.events.proofs.refusal.Tie as tie
 
 returns : tie.Need-returns
 unfolding stepped
-returns c = rw (ap not (sym (c .before .known .ensures)) ∙ c .if1 .taken)
+returns c = rw (sym (c .before .known .ensures) ∙ not-true _ (c .if1 .taken))
 
 returns-2 : tie.Need-returns-2
 unfolding stepped
-returns-2 c = rw (ap not (sym (c .before .before .before .known .ensures)) ∙ c .before .before .if1 .left, ap not (sym (c .before .argument-right .ensures)) ∙ c .if2 .taken)
+returns-2 c = rw (sym (c .before .before .before .known .ensures) ∙ not-false _ (c .before .before .if1 .left), sym (c .before .argument-right .ensures) ∙ not-true _ (c .if2 .taken))
 
 returns-3 : tie.Need-returns-3
-unfolding stepped
-returns-3 c = rw (ap not (sym (c .before .before .before .before .known .ensures)) ∙ c .before .before .before .if1 .left, ap not (sym (c .before .before .argument-right .ensures)) ∙ c .before .if2 .left) (c .own-refusal .ensures ∙ sym (acted-refusal (c .before .before .before .before .before .args .plan) (unpacked (c .before .before .before .before .before .args .x)) (c .before .before .before .before .before .args .code) (c .before .before .before .before .before .args .arg)))
+returns-3 c =
+    let a = c .before .before .before .before .before .args in
+    c .own-refusal .ensures ∙ sym (judged-refusal (a .plan) (unpacked (a .x)) (a .event) (sym (c .before .before .before .before .known .ensures) ∙ not-false _ (c .before .before .before .if1 .left)) (sym (c .before .before .argument-right .ensures) ∙ not-false _ (c .before .if2 .left)))
 
 pub refusal-spec : {M : Type 1} → statement M
 refusal-spec =

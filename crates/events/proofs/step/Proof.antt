@@ -1,7 +1,7 @@
 use Prim.Native.Nat.{ℕ}
 use mathlib.Core.Path.{sym, ap, _∙_}
-use Rattle.packed.specs.Packed.{unpacked}
-use Rattle.events.specs.Apply.{accepted, refused}
+use Rattle.block.specs.Apply.{accepted, refused}
+use Rattle.situation.specs.Packed.{unpacked}
 use Rattle.events.proofs.Steps.{as-accepted, as-refused}
 use borrow.Author.Needs.{needs}
 use Rattle.events.proofs.step.Statement.{statement}
@@ -11,12 +11,18 @@ returns : tie.Need-returns
 returns c =
     let a = c .before .before .args in
     let e = c .before .refusal .ensures in
-    ap (λ (r : ℕ). refused r (unpacked (a .x))) e ∙ sym (as-refused (a .plan) (unpacked (a .x)) (a .code) (a .arg) (λ z. c .if1 .taken (e ∙ z)))
+    ap (λ (r : ℕ). refused r (unpacked (a .x))) e ∙ sym (as-refused (a .plan) (unpacked (a .x)) (a .event) (λ z. c .if1 .taken (e ∙ z)))
 
 returns-2 : tie.Need-returns-2
 returns-2 c =
     let a = c .before .before .before .args in
-    ap accepted (c .next .ensures) ∙ sym (as-accepted (a .plan) (unpacked (a .x)) (a .code) (a .arg) (sym (c .before .before .refusal .ensures) ∙ c .before .if1 .left))
+    ap accepted (c .next .ensures) ∙ sym (as-accepted (a .plan) (unpacked (a .x)) (a .event) (sym (c .before .before .refusal .ensures) ∙ c .before .if1 .left))
 
 pub step-spec : {M : Type 1} → statement M
-step-spec = tie.close (tie.spec (λ c κs. search needs) returns (λ c κs. search needs) returns-2)
+step-spec =
+    tie.close
+    (tie.spec
+    (λ c κs. search needs)
+    returns
+    (λ c κs. search needs)
+    returns-2)

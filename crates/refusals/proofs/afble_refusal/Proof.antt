@@ -1,10 +1,17 @@
-use Rattle.block.specs.Events.{afbli, afble}
+use Rattle.block.specs.Place.{place}
+use Rattle.block.specs.Table.{Afbli, Afble}
+use Rattle.situation.specs.Packed.{unpacked}
 use Rattle.refusals.proofs.InOrder.{by-run, in-order}
-use Rattle.packed.specs.Packed.{unpacked}
 use borrow.Author.Needs.{needs}
 use Rattle.refusals.proofs.afble_refusal.Statement.{statement}
 use Rattle.refusals.proofs.afble_refusal.Tie as tie
 
+returns : tie.Need-returns
+returns c =
+    let a = c .before .before .before .before .args in
+    let x = unpacked (a .x) in
+    by-run (Afble .row (place (a .at) x) x) tt
+    (rw (c .check .ensures, c .before .has-entry .ensures, c .before .before .afbli-refusal .ensures, c .before .before .before .own .ensures, ← in-order (Afbli .row (place (a .at) x) x) tt))
+
 pub afble-refusal-spec : {M : Type 1} → statement M
-afble-refusal-spec =
-    tie.close (tie.spec (λ c κs. search needs) (λ c κs. search needs) (λ c κs. search needs) (λ c. by-run (afble (unpacked (c .before .before .before .args .x))) tt (rw (c .check .ensures, c .before .entry .ensures, c .before .before .afbli-refusal .ensures, ← in-order (afbli (unpacked (c .before .before .before .args .x))) tt))))
+afble-refusal-spec = tie.close (tie.spec (λ c κs. search needs) (λ c κs. search needs) (λ c κs. search needs) (λ c κs. search needs) returns)

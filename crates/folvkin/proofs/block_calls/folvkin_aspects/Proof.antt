@@ -5,12 +5,12 @@ use lib.ListN.{length, drop}
 use mathlib.Core.List.{List, _++_}
 use borrow.Author.Needs.{needs}
 use borrow.Author.Tests.{eq-eqb, ne-eqb, le-leb, lt-leb}
-use Rattle.sections.proofs.Tests.{holds-is}
+use Rattle.words.proofs.Tests.{holds-is}
 use Rattle.block.specs.Line.{isPlan}
 use Rattle.block.specs.Judged.{judged}
-use Rattle.block.specs.declared.situation.Situation.{Situation}
+use Rattle.block.specs.Situation.{Situation}
 use Rattle.block.proofs.PlanLaws.{judged-plan}
-use Rattle.packed.specs.Packed.{unpacked}
+use Rattle.situation.specs.Packed.{unpacked}
 use Rattle.records.specs.Situation.{situation-of}
 use Rattle.folvkin.specs.Block.{plan-of, situation-refusal, aspects-refusal, first-aspects}
 use Rattle.folvkin.proofs.block_calls.folvkin_aspects.Statement.{statement}

@@ -3,8 +3,8 @@ use Prim.Native.Nat.{ℕ}
 use mathlib.Core.Path.{_≡_, sym, ap, _∙_}
 use mathlib.Core.List.{List}
 use lib.ListN.{length}
-use Rattle.block.specs.declared.situation.Situation.{Situation}
-use Rattle.events.specs.Apply.{Outcome, applied}
+use Rattle.block.specs.Situation.{Situation}
+use Rattle.block.specs.Apply.{event, Outcome, applied}
 use Rattle.records.specs.Situation.{situation-of, situation-bytes}
 use Rattle.folvkin.specs.Block.{plan-of, event-refusal}
 use Rattle.folvkin.proofs.Overwritten.{overwritten}
@@ -14,14 +14,14 @@ use Rattle.folvkin.proofs.block_calls.folvkin_event.Statement.{statemen
 use Rattle.folvkin.proofs.block_calls.folvkin_event.Tie as tie
 
 -- what is applied to the situation that the bytes hold
-module _ (n b : ℕ) (si : List ℕ) (code argument : ℕ) {x : Situation} {o : Outcome} (e : x ≡ situation-of si) (h : o ≡ applied (plan-of n b) x code argument) where
-  happens : o ≡ applied (plan-of n b) (situation-of si) code argument
-  happens = h ∙ ap (λ (y : Situation). applied (plan-of n b) y code argument) e
+module _ (n b : ℕ) (si : List ℕ) (code argument : ℕ) {x : Situation} {o : Outcome} (e : x ≡ situation-of si) (h : o ≡ applied (plan-of n b) x (event code argument)) where
+  happens : o ≡ applied (plan-of n b) (situation-of si) (event code argument)
+  happens = h ∙ ap (λ (y : Situation). applied (plan-of n b) y (event code argument)) e
 
   own : length si ≡ 19 → o .refusal ≡ event-refusal n b si code argument
   own l = rw (eq-eqb (length si) 19 l) (ap (λ (p : Outcome). p .refusal) happens)
 
-  written : situation-bytes (o .next) ≡ situation-bytes (applied (plan-of n b) (situation-of si) code argument .next)
+  written : situation-bytes (o .next) ≡ situation-bytes (applied (plan-of n b) (situation-of si) (event code argument) .next)
   written = ap (λ (p : Outcome). situation-bytes (p .next)) happens
 
 accepted : tie.Need-returns

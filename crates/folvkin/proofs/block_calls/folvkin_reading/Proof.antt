@@ -2,7 +2,7 @@ use Prim.Native.Nat.{_+_, _*_}
 use mathlib.Core.Path.{ap, _∙_}
 use borrow.Author.Needs.{needs}
 use borrow.Author.Tests.{eq-eqb, ne-eqb}
-use Rattle.block.specs.declared.situation.Situation.{Situation}
+use Rattle.block.specs.Situation.{Situation}
 use Rattle.signals.specs.Readings.{reading}
 use Rattle.signals.specs.declared.readings.Told.{Told}
 use Rattle.folvkin.specs.Block.{plan-of}

@@ -10,7 +10,7 @@ use lib.Ieee.{binary32, fits, toBits}
 use lib.Ieee.Exact.{HasValue}
 use mir.Syntax.{w32}
 use mir.Val.{toZ, ofZ}
-use Rattle.marking.specs.Words.{if_then_else_}
+use Rattle.words.specs.Words.{if_then_else_}
 use Rattle.marking.specs.Exact.{isNumber, exactValue, distance, right, below, signed, signedError}
 use Rattle.marking.specs.Inner.{valueOf}
 use Rattle.marking.proofs.Cutting.{right-cut, error-cut}

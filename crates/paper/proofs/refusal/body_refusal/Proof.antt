@@ -2,7 +2,7 @@ use mathlib.Core.Path.{_≡_, ap, _∙_}
 use borrow.Author.Needs.{needs}
 use borrow.Author.Tests.{eq-eqb, ne-eqb}
 use Rattle.block.specs.Judged.{judged}
-use Rattle.block.specs.declared.situation.Situation.{Situation}
+use Rattle.block.specs.Situation.{Situation}
 use Rattle.records.specs.Situation.{situation-of}
 use Rattle.paper.proofs.refusal.body_refusal.Statement.{statement}
 use Rattle.paper.proofs.refusal.body_refusal.Tie as tie

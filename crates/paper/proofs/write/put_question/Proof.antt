@@ -4,7 +4,7 @@ use native.Mathlib.Omega.{arith}
 use borrow.Author.Needs.{needs}
 use Prim.Native.Nat.{ℕ, _+_, _≤_}
 use lib.ListN.{length, length-append}
-use Rattle.packed.specs.Packed.{unpacked}
+use Rattle.situation.specs.Packed.{unpacked}
 use Rattle.paper.specs.Question.{asked}
 use Rattle.paper.specs.Write.{laid}
 use Rattle.paper.proofs.Laid.{onto, written-length, regrouped}

@@ -5,7 +5,7 @@ use borrow.Author.Needs.{needs}
 use Prim.Native.Nat.{ℕ}
 use lib.ListN.{length}
 use Rattle.paper.specs.Write.{laid}
-use Rattle.packed.specs.Packed.{unpacked}
+use Rattle.situation.specs.Packed.{unpacked}
 use Rattle.records.specs.Situation.{situation-written}
 use Rattle.paper.proofs.write.put_situation.Statement.{statement}
 use Rattle.paper.proofs.write.put_situation.Tie as tie

@@ -8,10 +8,11 @@ use borrow.Author.Tests.{eq-eqb, ne-eqb}
 use mathlib.Core.Bool.{Bool, cond}
 use denote.Ref.{now}
 use Rattle.keylaws.specs.Run.{Outcome, runFrom, run, stopped}
-use Rattle.block.specs.declared.situation.Situation.{Situation}
-use Rattle.packed.specs.Packed.{unpacked}
+use Rattle.block.specs.Situation.{Kept}
+use Rattle.situation.specs.Packed.{unpacked}
 use Rattle.rules.specs.RulesOf.{rulesOf}
 use Rattle.rules.proofs.RunSteps.{run-end, run-step}
+use Rattle.rules.proofs.EachEvent.{tried-refusal, tried-next}
 use Rattle.rules.proofs.run.run_places.Statement.{statement}
 use Rattle.rules.proofs.run.run_places.Tie as tie
 
@@ -24,19 +25,27 @@ abbrev μ-loop : tie.MeasureT-loop
 
 loop-again : tie.Need-loop-again Inv-loop μ-loop
 loop-again c =
-    let a = c .before .before .before .before .before .before .before .before .before .args in
+    let s = c .before .before .before .before .before .before .before .before .before .before in
+    let a = s .args in
     let R = rulesOf (a .plan) (now (a .events)) (now (a .readings)) in
-    let l = c .before .before .before .before .before .loop in
+    let l = c .before .before .before .before .before .before .loop in
     let place = getD (now (a .places)) (l .i) 0 in
-    let on : Situation → Outcome = λ y. runFrom R y (l .i + 1 + 1) (drop (l .i + 1) (now (a .places))) in
-    (omega arith, sym (sym (l .inv .1) ∙ run-step R (unpacked (l .x)) (now (a .places)) (l .i) (omega arith) ∙ ap (λ (v : Bool). cond v (on (R .next (unpacked (l .x)) place)) (stopped (l .i + 1) (R .refusal (unpacked (l .x)) place))) (eq-eqb _ 0 (sym (c .before .before .refusal-at .ensures) ∙ c .before .if2 .left)) ∙ ap on (sym (c .reached-at .ensures))))
+    let on : Kept → Outcome = λ y. runFrom R y (l .i + 1 + 1) (drop (l .i + 1) (now (a .places))) in
+    let permitted = s .pre .0 .1 (l .i) (omega arith) in
+    let accepted = sym (tried-refusal (a .plan) (unpacked (l .x)) (now (a .events)) place (c .before .before .before .event-at .ensures) (permitted .0) (omega (arith, permitted .1)) (s .pre .1 .0) (c .before .before .own-refusal .ensures)) ∙ c .before .if2 .left in
+    (omega arith, sym (sym (l .inv .1) ∙ run-step R (unpacked (l .x)) (now (a .places)) (l .i) (omega arith) ∙ ap (λ (v : Bool). cond v (on (R .next (unpacked (l .x)) place)) (stopped (l .i + 1) (R .refusal (unpacked (l .x)) place))) (eq-eqb _ 0 accepted) ∙ ap on (sym (tried-next (a .plan) (unpacked (l .x)) (now (a .events)) place (c .before .before .before .event-at .ensures) accepted (c .next .ensures)))))
 
 returns : tie.Need-returns Inv-loop μ-loop
 returns c = rw (c .all-hold .ensures) (sym (sym (c .before .before .before .loop .inv .1) ∙ run-end _ _ _ _ (omega arith)))
 
 returns-2 : tie.Need-returns-2 Inv-loop μ-loop
 returns-2 c =
-    sym (sym (c .before .before .before .before .loop .inv .1) ∙ run-step _ _ _ _ (omega arith) ∙ rw (ne-eqb _ 0 (λ z. c .if2 .taken (c .before .refusal-at .ensures ∙ z)), c .before .refusal-at .ensures) refl)
+    let s = c .before .before .before .before .before .before .before .before .before in
+    let a = s .args in
+    let l = c .before .before .before .before .before .loop in
+    let permitted = s .pre .0 .1 (l .i) (omega arith) in
+    let told = tried-refusal (a .plan) (unpacked (l .x)) (now (a .events)) (getD (now (a .places)) (l .i) 0) (c .before .before .event-at .ensures) (permitted .0) (omega (arith, permitted .1)) (s .pre .1 .0) (c .before .own-refusal .ensures) in
+    sym (sym (l .inv .1) ∙ run-step _ _ _ _ (omega arith) ∙ rw (ne-eqb _ 0 (λ z. c .if2 .taken (told ∙ z)), told) refl)
 
 pub run-places-spec : {M : Type 1} → statement M
 run-places-spec =
@@ -46,13 +55,14 @@ run-places-spec =
     μ-loop
     (λ c. (omega arith, refl))
     (λ c κs. search needs)
-    (λ c κs. search needs)
+    (λ c κs. (c .before .before .before .before .before .before .pre .1 .1, c .wanted-of .ensures))
     (λ c. search needs)
     (λ c. omega (arith, c .shared-slice-known4 .given (c .before .before .loop .i)))
-    (λ c κs. let a = c .before .before .before .before .before .before in (omega (arith, a .pre .0 .1 (c .before .before .loop .i) (omega arith)), a .pre .1))
+    (λ c κs. omega (arith, c .before .before .before .before .before .before .pre .0 .1 (c .before .before .loop .i) (omega arith)))
+    (λ c κs. search needs)
     (λ c. search needs)
     (λ c. search needs)
-    (λ c κs. (omega (arith, c .before .before .before .before .before .before .before .before .pre .0 .1 (c .before .before .before .before .loop .i) (omega arith)), sym (c .before .refusal-at .ensures) ∙ c .if2 .left))
+    (λ c κs. search needs)
     (λ c. search needs)
     (λ c. search needs)
     loop-again

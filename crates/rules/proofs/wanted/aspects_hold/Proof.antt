@@ -4,7 +4,7 @@ use mathlib.Core.Logic.{⊎-elim}
 use lib.ListN.{length}
 use borrow.Author.Needs.{needs}
 use borrow.Author.Tests.{eq-eqb, ne-eqb}
-use Rattle.packed.specs.Packed.{unpacked}
+use Rattle.situation.specs.Packed.{unpacked}
 use Rattle.rules.specs.Wanted.{aspects-hold}
 use Rattle.rules.proofs.ReadingSteps.{rest-of, aspects-step, aspects-end}
 use Rattle.rules.proofs.wanted.aspects_hold.Statement.{statement}

@@ -1,0 +1,11 @@
+use Rattle.bodies.specs.Words.{in-words}
+use borrow.Author.Needs.{needs}
+use Rattle.bodies.proofs.flags_in.Statement.{statement}
+use Rattle.bodies.proofs.flags_in.Tie as tie
+
+returns : tie.Need-returns
+unfolding in-words
+returns c = rw (c .flags-word .ensures, c .before .before .station-word2 .ensures .0, c .before .before .before .before .before .before .before .before .before .before .before .station-word .ensures .0)
+
+pub flags-in-spec : {M : Type 1} → statement M
+flags-in-spec = tie.close (tie.spec (λ c. search needs) (λ c. search needs) (λ c. search needs) (λ c. search needs) (λ c. search needs) (λ c. search needs) (λ c. search needs) (λ c. search needs) (λ c κs. search needs) (λ c. search needs) (λ c. search needs) (λ c. search needs) (λ c. search needs) (λ c. search needs) (λ c. search needs) (λ c. search needs) (λ c. search needs) (λ c κs. search needs) (λ c. search needs) (λ c κs. search needs) returns)

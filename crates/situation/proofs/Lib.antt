@@ -1,0 +1,4 @@
+pub mod FlagLaws
+pub mod Exchanged
+pub mod Settled
+pub mod Taken

@@ -1,0 +1,15 @@
+use mathlib.Core.Path.{ap, _∙_}
+use mathlib.Core.Bool.{false}
+use Rattle.block.specs.Pending.{pending-settled}
+use Rattle.situation.specs.Packed.{unpacked}
+use borrow.Author.Needs.{needs}
+use Rattle.situation.proofs.Situation.exit_normal.Statement.{statement}
+use Rattle.situation.proofs.Situation.exit_normal.Tie as tie
+
+pub exit-normal-spec : {M : Type 1} → statement M
+exit-normal-spec =
+    tie.close
+    (tie.spec
+    (λ c κs. search needs)
+    (λ c κs. search needs)
+    (λ c. c .settled .ensures ∙ ap (pending-settled false (unpacked (c .before .before .args .self))) (c .before .exit .ensures)))

@@ -1,0 +1,116 @@
+// A plan and a situation in it, judged: 0 where it is one, else the refusal. A test for each clause of the document.
+ghost use mathlib.Core.Path.{_≡_};
+ghost use Rattle.words.specs.Words.{_and_};
+ghost use Rattle.block.specs.Sound.{stationSound, link-up-agrees, link-down-apart, may-ask, pending-sound, setsSound, sound};
+ghost use Rattle.block.specs.Judged.{judged};
+ghost use Rattle.situation.specs.Packed.{station, unpacked};
+use block::line::Direction;
+use block::line::Plan;
+use block::refused::ACCEPTED;
+use block::refused::NO_PLAN;
+use block::refused::NOT_SOUND;
+use sections::has;
+use sections::sections_up_to;
+use situation::Situation;
+use situation::Station;
+
+// Every clause on a station.
+fn all_clauses_hold(t: Station) -> bool
+    ensures { λ r. ⌜ r ≡ stationSound (station t) ⌝ }
+{
+    let exit = t.exit_route();
+    let none = !(t.is_out() | t.is_in());
+    let codes_in_range = !(t.is_out() & t.is_in())
+        & !(t.under_afbli() & t.under_afble())
+        & !(exit.normal & exit.special);
+    let annulled_is_none = !t.annulled() | none;
+    let routed_is_open = !t.routed() | (!t.has_bilc() & !t.is_in());
+    let normal_not_annulled = !exit.normal | !t.annulled();
+    let special_not_afbli = !exit.special | !t.under_afbli();
+    codes_in_range & annulled_is_none & routed_is_open & normal_not_annulled & special_not_afbli
+}
+
+// Of a station that is not annulled and has no exit route only the orientation's code is asked.
+fn station_sound(t: Station) -> bool
+    ensures { λ r. ⌜ r ≡ stationSound (station t) ⌝ }
+{
+    if t.annulled() | t.routed() {
+        return all_clauses_hold(t);
+    }
+    !(t.is_out() & t.is_in())
+}
+
+// One clause is for link up, the other for link down.
+fn orientations_sound(x: Situation) -> bool
+    ensures { λ r. ⌜ r ≡ (link-up-agrees (unpacked x) and link-down-apart (unpacked x)) ⌝ }
+{
+    let own = x.own();
+    let other = x.other();
+    if x.linked() {
+        let none = !(own.is_out() | own.is_in()) & !(other.is_out() | other.is_in());
+        return x.one_out_one_in() | none;
+    }
+    !(own.is_out() & other.is_out()) & !(own.is_in() & other.is_in())
+}
+
+fn may_ask(x: Situation, t: Station) -> bool
+    ensures { λ r. ⌜ r ≡ may-ask (unpacked x) (station t) ⌝ }
+{
+    x.linked() & !t.annulled() & !t.is_out()
+}
+
+fn pending_sound(x: Situation) -> bool
+    ensures { λ r. ⌜ r ≡ pending-sound (unpacked x) ⌝ }
+{
+    if x.asks() | x.other_asks() {
+        let own = may_ask(x, x.own());
+        let other = may_ask(x, x.other());
+        return !(x.asks() & x.other_asks()) & (!x.asks() | own) & (!x.other_asks() | other);
+    }
+    true
+}
+
+// No set names what is no section, and the exit signals, of section 1 towards B and of section n towards A, are not held.
+fn sets_sound(plan: Plan, x: Situation) -> bool
+    ensures { λ r. ⌜ r ≡ setsSound plan (unpacked x) ⌝ }
+{
+    let heldb = x.held(Direction::TowardsB);
+    let helda = x.held(Direction::TowardsA);
+    if !sections_up_to(x.occupied | heldb | helda, plan.sections) {
+        return false;
+    }
+    if has(heldb, 1) {
+        return false;
+    }
+    !has(helda, plan.sections as u16)
+}
+
+fn sound(plan: Plan, x: Situation) -> bool
+    ensures { λ r. ⌜ r ≡ sound plan (unpacked x) ⌝ }
+{
+    if !sets_sound(plan, x) {
+        return false;
+    }
+    if !pending_sound(x) {
+        return false;
+    }
+    if !orientations_sound(x) {
+        return false;
+    }
+    if !station_sound(x.own()) {
+        return false;
+    }
+    station_sound(x.other())
+}
+
+pub fn judged(plan: Plan, x: Situation) -> u8
+    ensures { λ r. ⌜ r ≡ judged plan (unpacked x) ⌝ }
+{
+    if plan.is_plan() {
+        if sound(plan, x) {
+            return ACCEPTED;
+        }
+        return NOT_SOUND;
+    }
+    NO_PLAN
+}
