@@ -2,7 +2,7 @@
 ghost use mathlib.Core.Path.{_≡_};
 ghost use Prim.Native.Nat.{_+_, _-_};
 ghost use Rattle.block.specs.Judged.{plan-judged};
-ghost use Rattle.block.specs.Line.{isPlan, is-section, owner, first-section, is-first, station-named, opposite, away, toward, entrance, terminus, before, after, across-frontier, direction-of, section-of, is-signal, is-exit, is-block-signal};
+ghost use Rattle.block.specs.Line.{isPlan, is-section, owner, first-section, is-first, station-named, opposite, away, toward, entrance, terminus, before, across-frontier, direction-of, section-of, is-signal, is-exit, is-block-signal};
 use super::refused::ACCEPTED;
 use super::refused::NO_PLAN;
 
@@ -80,7 +80,7 @@ impl Plan {
         self.is_section(k)
     }
 
-    pub fn is_exit(self, d: Direction, k: u16) -> bool
+    fn is_exit(self, d: Direction, k: u16) -> bool
         ensures { λ r. ⌜ r ≡ is-exit self d k ⌝ }
     {
         let s = d.entrance();
@@ -206,15 +206,6 @@ impl Direction {
         match self {
             Direction::TowardsA => one_more(k),
             Direction::TowardsB => one_less(k),
-        }
-    }
-
-    pub fn after(self, k: u8) -> u16
-        ensures { λ r. ⌜ r ≡ after self k ⌝ }
-    {
-        match self {
-            Direction::TowardsA => one_less(k),
-            Direction::TowardsB => one_more(k),
         }
     }
 }

@@ -3,6 +3,7 @@ use Prim.Native.Nat.{ℕ}
 use mathlib.Core.Bool.{Bool, not}
 use mathlib.Core.Path.{_≡_, sym, subst}
 use lib.Dec.{T, eqb}
+use borrow.Author.Tests.{eq-eqb}
 use Rattle.words.specs.Words.{_and_, if_then_else_}
 use Rattle.words.proofs.Tests.{and-at, and-of, twice-not, if-case, is-holds}
 use Rattle.block.specs.Line.{isPlan}
@@ -24,7 +25,7 @@ use Rattle.blocklaws.proofs.Placed.{placed}
 use Rattle.blocklaws.proofs.StationsKept as stations
 use Rattle.blocklaws.proofs.StationsKept.{next, turned-sound, stations-kept}
 use Rattle.blocklaws.proofs.SetsKept.{sets-kept}
-use Rattle.blocklaws.specs.Laws.{SoundnessKept}
+use Rattle.blocklaws.specs.Laws.{SoundnessKept, MethodsSound}
 
 -- the conjuncts of soundness
 pub record Parts (q : Plan) (x : Situation) : Type 0 where
@@ -84,3 +85,6 @@ module _ (q : Plan) (plan : T (isPlan q)) (x : Kept) (e : Event) (t : T (sound q
 
 pub soundness-kept : SoundnessKept
 soundness-kept = applied-sound
+
+pub methods-sound : MethodsSound
+methods-sound p plan x e t ok right a = led-sound p plan x e t ok right (is-holds _ (eq-eqb _ 0 a))

@@ -9,8 +9,8 @@ use Rattle.sections.specs.Sections.{_belongs-to_}
 use Rattle.block.specs.Line.{isPlan}
 use Rattle.block.specs.Situation.{Station, Situation, Kept, areaDirection, fresh, nobody, seen-from, held, _is-out, _is-in, _annulled, _under-AFBLI, _under-AFBLE, _has-exit-route}
 use Rattle.block.specs.Sound.{stationSound, sound}
-use Rattle.block.specs.Table.{Kind, Sobb, Cobb, Afbli, Afble, Dafbl, Bilc, Dilc, Bslg, BslgOff, Bslb, BslbOff, Reminder, ReminderOff, ExitNormal, ExitSpecial, ExitReleased, Entry, EntryReleased, Occupied, Freed, LinkLost, LinkRestored}
-use Rattle.block.specs.Apply.{event, known, spot, stepped, applied, Outcome}
+use Rattle.block.specs.Table.{Kind, Sobb, Cobb, Afbli, Afble, Dafbl, Bilc, Dilc, Bslg, BslgOff, Bslb, BslbOff, Reminder, ReminderOff, ExitNormal, ExitSpecial, ExitReleased, Entry, EntryReleased, Occupied, Freed, LinkLost, LinkRestored, kind-of}
+use Rattle.block.specs.Apply.{refuses, leads, event, known, argument-right, spot, stepped, applied, Outcome}
 use Rattle.block.specs.declared.line.Plan.{Plan}
 use Rattle.block.specs.declared.line.Name.{Name}
 use Rattle.block.specs.declared.line.Name.the-variants.{StationA, StationB}
@@ -24,6 +24,15 @@ use Rattle.situation.specs.declared.Situation.{Situation as Packed}
 -- "Every accepted event leads from a sound situation to a sound one"; a refused one hands it back
 abbrev pub SoundnessKept : Type 0
 SoundnessKept = (p : Plan) → T (isPlan p) → (x : Kept) (e : Event) → T (sound p x) → T (sound p (applied p x e .next))
+
+-- so of what the methods hand back, as own sees it: sound wherever the event is accepted in a sound situation
+abbrev pub MethodsSound : Type 0
+MethodsSound =
+    (p : Plan) → T (isPlan p) → (x : Kept) (e : Event) → T (sound p x) → T (known e) → T (argument-right p e) →
+    let kind = kind-of (e .code) in
+    let at = spot p e in
+    let seen = seen-from (at .own) x in
+    refuses kind at seen ≡ 0 → T (sound p (leads kind at seen))
 
 -- "The fresh one: link 1, all else 0." It is sound
 abbrev pub FreshSound : Type 0

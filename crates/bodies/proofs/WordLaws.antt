@@ -13,8 +13,7 @@ use Rattle.sections.proofs.SetsOfSets.{low-bit}
 use Rattle.situation.specs.Packed.{unpacked}
 use Rattle.records.specs.Situation.{codes-in-range, decoded}
 use Rattle.records.proofs.SituationLaws.{codes-right}
-use Rattle.bodies.specs.Words.{bits-word, station-word, flags-word, codes-A, codes-B, in-words}
-use Rattle.bodies.specs.declared.StationCodes.{StationCodes}
+use Rattle.bodies.specs.Words.{StationCodes, bits-of, station-word, flags-word, codes-A, codes-B, in-words}
 
 -- ---- a code below a number, and a flag: its bits, and then those of the number
 one-is-odd : (a : ℕ) → a ≤ 2 → eqb (a % 2) 1 ≡ eqb a 1
@@ -74,7 +73,7 @@ module _ (c : StationCodes) (s : Small c) where
   bslg⁺ = c .bslg + 2 * reminder⁺
 
   abbrev entry⁺ : ℕ
-  entry⁺ = c .entry + 2 * bits-word c
+  entry⁺ = c .entry + 2 * bits-of c
 
   abbrev exit⁺ : ℕ
   exit⁺ = c .exit + 4 * entry⁺
@@ -91,8 +90,8 @@ module _ (c : StationCodes) (s : Small c) where
   from-entry : word / 2 ^ 6 ≡ entry⁺
   from-entry = past-code word 4 (c .exit) entry⁺ (s .exit) from-exit
 
-  from-bilc : word / 2 ^ 7 ≡ bits-word c
-  from-bilc = past-flag word 6 (c .entry) (bits-word c) (s .entry) from-entry
+  from-bilc : word / 2 ^ 7 ≡ bits-of c
+  from-bilc = past-flag word 6 (c .entry) (bits-of c) (s .entry) from-entry
 
   from-bslg : word / 2 ^ 8 ≡ bslg⁺
   from-bslg = past-flag word 7 (c .bilc) bslg⁺ (s .bilc) from-bilc
@@ -125,10 +124,10 @@ module _ (c : StationCodes) (s : Small c) where
   special = bit-from word 4 exit⁺ from-exit 1 ∙ code-two (c .exit) entry⁺ (s .exit)
 
   pub entry : At 6 (c .entry) 1
-  entry = bit-from word 6 entry⁺ from-entry 0 ∙ flag-one (c .entry) (bits-word c) (s .entry)
+  entry = bit-from word 6 entry⁺ from-entry 0 ∙ flag-one (c .entry) (bits-of c) (s .entry)
 
   pub bilc : At 7 (c .bilc) 1
-  bilc = bit-from word 7 (bits-word c) from-bilc 0 ∙ flag-one (c .bilc) bslg⁺ (s .bilc)
+  bilc = bit-from word 7 (bits-of c) from-bilc 0 ∙ flag-one (c .bilc) bslg⁺ (s .bilc)
 
   pub bslg : At 8 (c .bslg) 1
   bslg = bit-from word 8 bslg⁺ from-bslg 0 ∙ flag-one (c .bslg) reminder⁺ (s .bslg)

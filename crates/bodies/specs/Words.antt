@@ -4,14 +4,29 @@ use mathlib.Core.List.{List}
 use lib.ListN.{getD}
 use Rattle.records.specs.Situation.{sections-of}
 use Rattle.situation.specs.declared.Situation.{Situation as Packed}
-use Rattle.bodies.specs.declared.StationCodes.{StationCodes}
 
--- a station's bits
-abbrev pub bits-word : StationCodes → ℕ
-bits-word c = c .bilc + 2 * (c .bslg + 2 * (c .reminder + 2 * c .asks))
+-- the codes of a station, and its bits of BILC, BSLG, reminder and a pending SOBB
+pub record StationCodes : Type 0 where
+  pub orientation : ℕ
+  pub annulment : ℕ
+  pub exit : ℕ
+  pub entry : ℕ
+  pub bilc : ℕ
+  pub bslg : ℕ
+  pub reminder : ℕ
+  pub asks : ℕ
+
+abbrev pub bits-word : ℕ → ℕ → ℕ → ℕ → ℕ
+bits-word bilc bslg reminder asks = bilc + 2 * (bslg + 2 * (reminder + 2 * asks))
+
+abbrev pub codes-word : ℕ → ℕ → ℕ → ℕ → ℕ → ℕ
+codes-word orientation annulment exit entry bits = orientation + 4 * (annulment + 4 * (exit + 4 * (entry + 2 * bits)))
+
+abbrev pub bits-of : StationCodes → ℕ
+bits-of c = bits-word (c .bilc) (c .bslg) (c .reminder) (c .asks)
 
 abbrev pub station-word : StationCodes → ℕ
-station-word c = c .orientation + 4 * (c .annulment + 4 * (c .exit + 4 * (c .entry + 2 * bits-word c)))
+station-word c = codes-word (c .orientation) (c .annulment) (c .exit) (c .entry) (bits-of c)
 
 -- own's flags, the other's from bit 16 on, the link's bit 32
 abbrev pub flags-word : ℕ → ℕ → ℕ → ℕ

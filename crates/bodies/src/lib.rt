@@ -4,7 +4,7 @@ ghost use Prim.Native.Nat.{_≤_};
 ghost use lib.ListN.{length};
 ghost use Rattle.situation.specs.Packed.{unpacked};
 ghost use Rattle.records.specs.Situation.{no-situation, sections-of, situation-of, situation-bytes};
-ghost use Rattle.bodies.specs.Words.{bits-word, station-word, flags-word, in-words};
+ghost use Rattle.bodies.specs.Words.{bits-word, codes-word, flags-word, in-words};
 use block::codes::Pending;
 use block::line::Direction;
 use records::si::bits;
@@ -15,30 +15,18 @@ use situation::Signals;
 use situation::Situation;
 use words::flag;
 
-// The codes of a station, and its bits of BILC, BSLG, reminder and a pending SOBB.
-struct StationCodes {
-    orientation: u8,
-    annulment: u8,
-    exit: u8,
-    entry: u8,
-    bilc: u8,
-    bslg: u8,
-    reminder: u8,
-    asks: u8,
+// A station's bits: BILC, BSLG, reminder, a pending SOBB.
+fn bits_word(bilc: u8, bslg: u8, reminder: u8, asks: u8) -> u64
+    ensures { λ r. ⌜ (r ≡ bits-word bilc bslg reminder asks) × (r ≤ 3825) ⌝ }
+{
+    bilc as u64 + 2 * (bslg as u64 + 2 * (reminder as u64 + 2 * (asks as u64)))
 }
 
-fn bits_word(c: StationCodes) -> u64
-    ensures { λ r. ⌜ r ≡ bits-word c ⌝ }
+fn station_word(orientation: u8, annulment: u8, exit: u8, entry: u8, bits: u64) -> u64
+    requires { ⌜ bits ≤ 3825 ⌝ }
+    ensures { λ r. ⌜ (r ≡ codes-word orientation annulment exit entry bits) × (r ≤ 1048575) ⌝ }
 {
-    c.bilc as u64 + 2 * (c.bslg as u64 + 2 * (c.reminder as u64 + 2 * (c.asks as u64)))
-}
-
-fn station_word(c: StationCodes) -> u64
-    ensures { λ r. ⌜ (r ≡ station-word c) × (r ≤ 1048575) ⌝ }
-{
-    let bits = bits_word(c);
-    c.orientation as u64
-        + 4 * (c.annulment as u64 + 4 * (c.exit as u64 + 4 * (c.entry as u64 + 2 * bits)))
+    orientation as u64 + 4 * (annulment as u64 + 4 * (exit as u64 + 4 * (entry as u64 + 2 * bits)))
 }
 
 // A field of two bytes.
@@ -59,26 +47,10 @@ fn flags_in(body: &[u8]) -> u64
     requires { ⌜ 19 ≤ length (now body) ⌝ }
     ensures { λ r. ⌜ r ≡ in-words (now (body .entry)) .flags ⌝ }
 {
-    let own = station_word(StationCodes {
-        orientation: body[1],
-        annulment: body[3],
-        exit: body[5],
-        entry: body[7],
-        bilc: body[10] % 2,
-        bslg: body[11] % 2,
-        reminder: body[12] % 2,
-        asks: body[9] % 2,
-    });
-    let other = station_word(StationCodes {
-        orientation: body[2],
-        annulment: body[4],
-        exit: body[6],
-        entry: body[8],
-        bilc: body[10] / 2,
-        bslg: body[11] / 2,
-        reminder: body[12] / 2,
-        asks: body[9] / 2,
-    });
+    let bits = bits_word(body[10] % 2, body[11] % 2, body[12] % 2, body[9] % 2);
+    let own = station_word(body[1], body[3], body[5], body[7], bits);
+    let bits = bits_word(body[10] / 2, body[11] / 2, body[12] / 2, body[9] / 2);
+    let other = station_word(body[2], body[4], body[6], body[8], bits);
     flags_word(own, other, body[0])
 }
 

@@ -116,8 +116,8 @@ pub fn own_refusal(plan: Plan, x: Situation, event: Event) -> u8
     ensures { λ r. ⌜ r ≡ own-refusal plan (unpacked x) event ⌝ }
 {
     let code = event.code;
-    let at = at_station(plan, event.argument);
-    let there = at_owner(plan, event.argument);
+    let arg = event.argument;
+    let at = at_station(plan, arg);
     let own = at.own;
     let seen = x.seen_from(own);
     match code {
@@ -130,8 +130,8 @@ pub fn own_refusal(plan: Plan, x: Situation, event: Event) -> u8
         7 => refusals::dilc_refusal(seen, at),
         8 => refusals::bslg_refusal(seen, at),
         9 => refusals::bslg_off_refusal(seen, at),
-        10 => refusals::bslb_refusal(x, there),
-        11 => refusals::bslb_off_refusal(x, there),
+        10 => refusals::bslb_refusal(x, at_owner(plan, arg)),
+        11 => refusals::bslb_off_refusal(x, at_owner(plan, arg)),
         12 => refusals::reminder_refusal(seen, at),
         13 => refusals::reminder_off_refusal(seen, at),
         14 => refusals::exit_normal_refusal(seen, at),
@@ -139,8 +139,8 @@ pub fn own_refusal(plan: Plan, x: Situation, event: Event) -> u8
         16 => refusals::exit_released_refusal(seen, at),
         17 => refusals::entry_refusal(seen, at),
         18 => refusals::entry_released_refusal(seen, at),
-        19 => refusals::occupied_refusal(x, there),
-        20 => refusals::freed_refusal(x, there),
+        19 => refusals::occupied_refusal(x, at_owner(plan, arg)),
+        20 => refusals::freed_refusal(x, at_owner(plan, arg)),
         21 => refusals::link_lost_refusal(seen, at),
         22 => refusals::link_restored_refusal(seen, at),
         _ => UNKNOWN_CODE,
@@ -161,8 +161,8 @@ pub fn next(plan: Plan, x: Situation, event: Event) -> Situation
     ensures { λ r. ⌜ unpacked r ≡ reached plan (unpacked x) event ⌝ }
 {
     let code = event.code;
-    let at = at_station(plan, event.argument);
-    let there = at_owner(plan, event.argument);
+    let arg = event.argument;
+    let at = at_station(plan, arg);
     let own = at.own;
     let seen = x.seen_from(own);
     match code {
@@ -175,8 +175,8 @@ pub fn next(plan: Plan, x: Situation, event: Event) -> Situation
         7 => seen.dilc(at).seen_from(own),
         8 => seen.bslg(at).seen_from(own),
         9 => seen.bslg_off(at).seen_from(own),
-        10 => x.bslb(there),
-        11 => x.bslb_off(there),
+        10 => x.bslb(at_owner(plan, arg)),
+        11 => x.bslb_off(at_owner(plan, arg)),
         12 => seen.reminder(at).seen_from(own),
         13 => seen.reminder_off(at).seen_from(own),
         14 => seen.exit_normal(at).seen_from(own),
@@ -184,8 +184,8 @@ pub fn next(plan: Plan, x: Situation, event: Event) -> Situation
         16 => seen.exit_released(at).seen_from(own),
         17 => seen.entry(at).seen_from(own),
         18 => seen.entry_released(at).seen_from(own),
-        19 => occupied_at(x, there),
-        20 => x.freed(there),
+        19 => occupied_at(x, at_owner(plan, arg)),
+        20 => x.freed(at_owner(plan, arg)),
         21 => seen.link_lost(at).seen_from(own),
         22 => seen.link_restored(at).seen_from(own),
         _ => x,

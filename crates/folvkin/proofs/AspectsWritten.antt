@@ -12,7 +12,8 @@ use lib.ListN.{length, take, drop, set, getD, length-append, length-drop, drop-o
 use lib.Seq.{drop-cons, set-at, take-at, drop-at, drop-drop}
 use borrow.Author.Tests.{lt-ltb, le-ltb, le-leb, lt-leb}
 use Rattle.words.specs.Words.{if_then_else_}
-use Rattle.sections.specs.Sections.{_belongs-to_, one-down}
+use Rattle.sections.specs.Sections.{_belongs-to_}
+use Rattle.sections.specs.Sets.{one-down}
 use Rattle.block.specs.Line.{isPlan, is-section, direction-of, section-of}
 use Rattle.block.specs.declared.line.Plan.{Plan}
 use Rattle.block.specs.declared.line.Direction.{Direction}

@@ -19,7 +19,7 @@ pub const LONGEST_LINE: usize = 20;
 pub const LONGEST_TOTAL: usize = 27;
 
 // "refused", one space, three digits, the end of the line.
-pub const LONGEST_REFUSED: usize = 12;
+const LONGEST_REFUSED: usize = 12;
 
 // One line for each slot: places separated by one space, "-" for the empty one. The room is to have the bytes of so many longest lines; a
 // shorter one keeps its values, and the answer is 0.

@@ -16,7 +16,7 @@ use sections::with_section;
 use signals::readings::reading_in_range;
 use words::wide;
 
-pub const LONGEST: u8 = 5;
+const LONGEST: u8 = 5;
 
 fn event_refusal(plan: Plan, event: Event) -> u8
     ensures { λ r. ⌜ r ≡ event-refusal plan event ⌝ }

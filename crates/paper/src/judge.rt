@@ -35,7 +35,7 @@ fn body_refusal(plan: Plan, events: Events, readings: Readings, length: u8) -> u
     lists_refusal(plan, &listed[..n], &read[..m], length)
 }
 
-pub fn refusal_of(q: Question) -> u8
+pub(crate) fn refusal_of(q: Question) -> u8
     ensures { λ r. ⌜ r ≡ refusalOf (asked q) ⌝ }
 {
     if !counts_in_range(q.events.count, q.readings.count) {

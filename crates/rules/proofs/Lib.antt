@@ -1,5 +1,4 @@
 pub mod RunSteps
 pub mod EachEvent
 pub mod ReadingSteps
-pub mod MarksAllowed
 pub mod ReadingsTogether

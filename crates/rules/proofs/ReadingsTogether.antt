@@ -9,25 +9,33 @@ use borrow.Author.Tests.{ne-eqb}
 use lib.Dec.{eqb}
 use lib.ListN.{length, drop}
 use Rattle.words.specs.Words.{_and_, if_then_else_}
-use Rattle.sections.specs.Sections.{_belongs-to_}
+use Rattle.sections.specs.Sections.{none, _belongs-to_}
 use Rattle.sections.proofs.SetsOfSets.{in-both}
 use Rattle.words.proofs.Tests.{and-true}
-use Rattle.block.specs.Line.{station-named}
-use Rattle.block.specs.Situation.{line-free, station as Block·station}
-use Rattle.block.specs.Codes.{orientation-code, annulment-code, route-code}
+use Rattle.block.specs.Situation.{line-free}
 use Rattle.block.specs.declared.line.Plan.{Plan}
-use Rattle.block.specs.declared.line.Name.the-variants.{StationA, StationB}
-use Rattle.block.specs.Situation.{Station}
 use Rattle.block.specs.Situation.{Situation}
-use Rattle.situation.specs.Packed.{flags-of, station-from, unpacked}
-use Rattle.situation.proofs.Exchanged.{others-flags}
+use Rattle.situation.specs.Packed.{unpacked}
+use Rattle.situation.specs.CodeSets.{own-codes, other-codes}
+use Rattle.situation.proofs.CodeSets.{six-all, by-value, agrees}
 use Rattle.situation.specs.declared.Situation.{Situation as Packed}
 use Rattle.signals.specs.Aspects.{aspect}
 use Rattle.signals.specs.Readings.{value-read, reading-holds}
+use Rattle.signals.specs.CodesRead.{of-station, codes-of, codes-where, line-read}
+use Rattle.signals.proofs.CodesRead.{in-codes, line-is}
 use Rattle.rules.specs.RulesOf.{all-hold}
-use Rattle.rules.specs.Wanted.{anything, with-own, with-other, with-marks, with-line, with-aspect, with-reading, with-readings, wanted-of, where-orientation, where-annulment, where-exit, where-line, line-read, as-wanted, aspect-holds, aspects-hold}
+use Rattle.rules.specs.Wanted.{anything, with-own, with-other, with-codes, with-line, with-aspect, with-reading, with-readings, wanted-of, where-line, as-wanted, aspect-holds, aspects-hold}
 use Rattle.rules.specs.declared.wanted.Wanted.{Wanted}
-use Rattle.rules.proofs.MarksAllowed.{either-way, six-all, in-orientation, in-annulment, in-exit, in-line}
+
+-- ---- the line
+in-line : (free : Bool) (v : ℕ) → ((if free then 0 else 1) belongs-to where-line v) ≡ eqb (if free then 0 else 1) v
+unfolding where-line agrees
+in-line true = by-value 1 2 none 0 0 (omega arith) tt
+in-line false = by-value 1 2 none 1 1 (omega arith) tt
+
+either-way : (b : Bool) (n : ℕ) → (if b then n else n) ≡ n
+either-way true n = refl
+either-way false n = refl
 
 -- ---- tests joined in another order
 and-swap : (a b : Bool) → (a and b) ≡ (b and a)
@@ -58,51 +66,43 @@ between false false c = refl
 
 module _ (x : Packed) where
   -- ---- a reading more
-  own-too : (w : Wanted) (marks : ℕ) → as-wanted (with-own marks w) x ≡ (as-wanted w x and ((x .flags % 64) belongs-to marks))
-  own-too w marks =
-      ap (λ (b : Bool). b and ((x .flags / 2 ^ 16 % 64) belongs-to w .other) and (line-read (unpacked x) belongs-to w .line)) (in-both (x .flags % 64) (w .own) marks)
-      ∙ first-two ((x .flags % 64) belongs-to w .own) ((x .flags % 64) belongs-to marks) ((x .flags / 2 ^ 16 % 64) belongs-to w .other) (line-read (unpacked x) belongs-to w .line)
+  own-too : (w : Wanted) (codes : ℕ) → as-wanted (with-own codes w) x ≡ (as-wanted w x and (own-codes x belongs-to codes))
+  own-too w codes =
+      ap (λ (b : Bool). b and (other-codes x belongs-to w .other) and (line-read (unpacked x) belongs-to w .line)) (in-both (own-codes x) (w .own) codes)
+      ∙ first-two (own-codes x belongs-to w .own) (own-codes x belongs-to codes) (other-codes x belongs-to w .other) (line-read (unpacked x) belongs-to w .line)
 
-  other-too : (w : Wanted) (marks : ℕ) → as-wanted (with-other marks w) x ≡ (as-wanted w x and ((x .flags / 2 ^ 16 % 64) belongs-to marks))
-  other-too w marks =
-      ap (λ (b : Bool). ((x .flags % 64) belongs-to w .own) and b and (line-read (unpacked x) belongs-to w .line)) (in-both (x .flags / 2 ^ 16 % 64) (w .other) marks)
-      ∙ second-two ((x .flags % 64) belongs-to w .own) ((x .flags / 2 ^ 16 % 64) belongs-to w .other) ((x .flags / 2 ^ 16 % 64) belongs-to marks) (line-read (unpacked x) belongs-to w .line)
+  other-too : (w : Wanted) (codes : ℕ) → as-wanted (with-other codes w) x ≡ (as-wanted w x and (other-codes x belongs-to codes))
+  other-too w codes =
+      ap (λ (b : Bool). (own-codes x belongs-to w .own) and b and (line-read (unpacked x) belongs-to w .line)) (in-both (other-codes x) (w .other) codes)
+      ∙ second-two (own-codes x belongs-to w .own) (other-codes x belongs-to w .other) (other-codes x belongs-to codes) (line-read (unpacked x) belongs-to w .line)
 
   line-too : (w : Wanted) (value : ℕ) → as-wanted (with-line (where-line value) w) x ≡ (as-wanted w x and eqb (line-read (unpacked x)) value)
   line-too w value =
-      let stations = ((x .flags % 64) belongs-to w .own) and ((x .flags / 2 ^ 16 % 64) belongs-to w .other) in
+      let stations = (own-codes x belongs-to w .own) and (other-codes x belongs-to w .other) in
       let line = line-read (unpacked x) in
       ap (λ (b : Bool). stations and b) (in-both line (w .line) (where-line value))
       ∙ sym (and-group stations (line belongs-to w .line) (line belongs-to where-line value))
       ∙ ap (λ (b : Bool). as-wanted w x and b) (in-line (line-free (unpacked x)) value)
 
-  -- a code of a station, which sets of marks tell
-  module _ (sets : ℕ → ℕ) (code : Station → ℕ) (tell : (m v : ℕ) → ((m % 64) belongs-to sets v) ≡ eqb (code (station-from 0 (flags-of m))) v) where
-    marks-too : (arg : ℕ) (w : Wanted) (value : ℕ) → as-wanted (with-marks arg (sets value) w) x ≡ (as-wanted w x and eqb (code (Block·station (unpacked x) (station-named arg))) value)
-    marks-too arg w value = go (eqb arg 1)
-      where
-        go : (b : Bool) → as-wanted (if b then with-other (sets value) w else with-own (sets value) w) x ≡ (as-wanted w x and eqb (code (Block·station (unpacked x) (if b then StationB else StationA))) value)
-        go true = other-too w (sets value) ∙ ap (λ (b : Bool). as-wanted w x and b) (tell (x .flags / 2 ^ 16) value ∙ ap (λ (t : Station). eqb (code t) value) (others-flags (x .flags)))
-        go false = own-too w (sets value) ∙ ap (λ (b : Bool). as-wanted w x and b) (tell (x .flags) value)
+  codes-too : (arg : ℕ) (w : Wanted) (codes : ℕ) → as-wanted (with-codes arg codes w) x ≡ (as-wanted w x and (codes-of arg x belongs-to codes))
+  codes-too arg w codes = go (eqb arg 1)
+    where
+      go : (b : Bool) → as-wanted (if b then with-other codes w else with-own codes w) x ≡ (as-wanted w x and ((if b then other-codes x else own-codes x) belongs-to codes))
+      go true = other-too w codes
+      go false = own-too w codes
 
   module _ (p : Plan) where
     -- what is asked together, and the aspects one by one
     reading-too : (w : Wanted) (kind arg value left : ℕ) → (as-wanted (with-reading kind arg value left w) x and aspect-holds p (unpacked x) kind arg value) ≡ (as-wanted w x and reading-holds p (unpacked x) kind arg value)
     unfolding value-read
-    reading-too w kind arg value left = go (eqb kind 1) (eqb kind 2) (eqb kind 3) (eqb kind 4)
+    reading-too w kind arg value left = go (eqb kind 1) refl (of-station kind) refl
       where
-        named : Station
-        named = Block·station (unpacked x) (station-named arg)
-
-        go : (one two three four : Bool)
-            → (as-wanted (if one then with-aspect left w else if two then with-marks arg (where-orientation value) w else if three then with-marks arg (where-annulment value) w else if four then with-marks arg (where-exit value) w else with-line (where-line value) w) x
-            and (if one then eqb (aspect p (unpacked x) arg) value else true))
-            ≡ (as-wanted w x and eqb (if one then aspect p (unpacked x) arg else if two then orientation-code (named .orientation) else if three then annulment-code (named .annulment) else if four then route-code (named .exit) else line-read (unpacked x)) value)
-        go true two three four = refl
-        go false true three four = and-true _ ∙ marks-too where-orientation (λ t. orientation-code (t .orientation)) in-orientation arg w value
-        go false false true four = and-true _ ∙ marks-too where-annulment (λ t. annulment-code (t .annulment)) in-annulment arg w value
-        go false false false true = and-true _ ∙ marks-too where-exit (λ t. route-code (t .exit)) in-exit arg w value
-        go false false false false = and-true _ ∙ line-too w value
+        go : (one : Bool) → eqb kind 1 ≡ one → (station : Bool) → of-station kind ≡ station →
+            (as-wanted (if one then with-aspect left w else if station then with-codes arg (codes-where kind value) w else with-line (where-line value) w) x and (if one then eqb (aspect p (unpacked x) arg) value else true))
+            ≡ (as-wanted w x and reading-holds p (unpacked x) kind arg value)
+        go true e station f = rw e refl
+        go false e true f = and-true _ ∙ codes-too arg w (codes-where kind value) ∙ ap (λ (b : Bool). as-wanted w x and b) (in-codes x arg p kind e f value)
+        go false e false f = and-true _ ∙ line-too w value ∙ ap (λ (n : ℕ). as-wanted w x and eqb n value) (line-is p (unpacked x) kind arg e f)
 
     readings-too : (w : Wanted) (t : List ℕ) → (as-wanted (with-readings w t) x and aspects-hold p t (unpacked x)) ≡ (as-wanted w x and all-hold p t (unpacked x))
     unfolding with-readings aspects-hold all-hold
@@ -129,24 +129,22 @@ module _ (x : Packed) where
       line-any false = refl
 
 -- ---- where the first aspect is read
-marks-aspects : (arg marks : ℕ) (w : Wanted) → with-marks arg marks w .aspects ≡ w .aspects
-marks-aspects arg marks w = go (eqb arg 1)
+codes-aspects : (arg codes : ℕ) (w : Wanted) → with-codes arg codes w .aspects ≡ w .aspects
+codes-aspects arg codes w = go (eqb arg 1)
   where
-    go : (b : Bool) → (if b then with-other marks w else with-own marks w) .aspects ≡ w .aspects
+    go : (b : Bool) → (if b then with-other codes w else with-own codes w) .aspects ≡ w .aspects
     go true = refl
     go false = refl
 
 reading-aspects : (w : Wanted) (kind arg value left : ℕ) → with-reading kind arg value left w .aspects ≡ (if eqb kind 1 then (if eqb (w .aspects) 0 then left else w .aspects) else w .aspects)
-reading-aspects w kind arg value left = go (eqb kind 1) (eqb kind 2) (eqb kind 3) (eqb kind 4)
+reading-aspects w kind arg value left = go (eqb kind 1) (of-station kind)
   where
-    go : (one two three four : Bool)
-        → (if one then with-aspect left w else if two then with-marks arg (where-orientation value) w else if three then with-marks arg (where-annulment value) w else if four then with-marks arg (where-exit value) w else with-line (where-line value) w) .aspects
+    go : (one station : Bool)
+        → (if one then with-aspect left w else if station then with-codes arg (codes-where kind value) w else with-line (where-line value) w) .aspects
         ≡ (if one then (if eqb (w .aspects) 0 then left else w .aspects) else w .aspects)
-    go true two three four = refl
-    go false true three four = marks-aspects arg (where-orientation value) w
-    go false false true four = marks-aspects arg (where-annulment value) w
-    go false false false true = marks-aspects arg (where-exit value) w
-    go false false false false = refl
+    go true station = refl
+    go false true = codes-aspects arg (codes-where kind value) w
+    go false false = refl
 
 aspects-kept : (w : Wanted) (t : List ℕ) → eqb (w .aspects) 0 ≡ false → with-readings w t .aspects ≡ w .aspects
 unfolding with-readings

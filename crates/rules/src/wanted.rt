@@ -5,18 +5,19 @@ ghost use mathlib.Core.Bool.{true};
 ghost use Rattle.block.specs.Line.{isPlan};
 ghost use Rattle.situation.specs.Packed.{unpacked};
 ghost use Rattle.rules.specs.RulesOf.{all-hold};
-ghost use Rattle.rules.specs.Wanted.{where-orientation, where-annulment, where-exit, where-line, with-marks, with-line, with-aspect, with-reading, wanted-of, Asked, line-read, as-wanted, aspects-hold};
+ghost use Rattle.rules.specs.Wanted.{where-line, with-codes, with-line, with-aspect, with-reading, wanted-of, Asked, as-wanted, aspects-hold};
 use block::line::Plan;
 use sections::both;
 use sections::has;
 use signals::lights::aspect_of;
-use signals::readings::ANNULMENT;
 use signals::readings::ASPECT;
-use signals::readings::EXIT_ROUTE;
-use signals::readings::ORIENTATION;
+use signals::readings::codes_where;
+use signals::readings::line_read;
+use signals::readings::of_station;
 use situation::Situation;
+use situation::codes::for_value;
 
-// A set for each station: the values of its first six flags (two each of orientation, annulment and exit route) that the readings allow.
+// A set for each station: the codes of orientation, annulment and exit route, as one number, that the readings allow.
 // The line's: 0 if it may be free, 1 if it may not. How many bytes of readings there are from the first aspect on, 0 if there is none.
 pub struct Wanted {
     pub own: u64,
@@ -32,60 +33,23 @@ const ANYTHING: Wanted = Wanted {
     aspects: 0,
 };
 
-// The values of six flags in which the orientation's code is this.
-fn where_orientation(value: u8) -> u64
-    ensures { λ r. ⌜ r ≡ where-orientation value ⌝ }
-{
-    match value {
-        0 => 0x1111111111111111,
-        1 => 0xAAAAAAAAAAAAAAAA,
-        2 => 0x4444444444444444,
-        _ => 0,
-    }
-}
-
-fn where_annulment(value: u8) -> u64
-    ensures { λ r. ⌜ r ≡ where-annulment value ⌝ }
-{
-    match value {
-        0 => 0x000F000F000F000F,
-        1 => 0xF0F0F0F0F0F0F0F0,
-        2 => 0x0F000F000F000F00,
-        _ => 0,
-    }
-}
-
-fn where_exit(value: u8) -> u64
-    ensures { λ r. ⌜ r ≡ where-exit value ⌝ }
-{
-    match value {
-        0 => 0x000000000000FFFF,
-        1 => 0xFFFF0000FFFF0000,
-        2 => 0x0000FFFF00000000,
-        _ => 0,
-    }
-}
-
+// The line: 0 free, 1 not; no other value.
 fn where_line(value: u8) -> u64
     ensures { λ r. ⌜ r ≡ where-line value ⌝ }
 {
-    match value {
-        0 => 1,
-        1 => 2,
-        _ => 0,
-    }
+    for_value(1, 2, 0, value)
 }
 
 impl Wanted {
     // Argument station: 0 A, 1 B.
-    fn with_marks(mut self, arg: u8, marks: u64) -> Wanted
-        ensures { λ r. ⌜ r ≡ with-marks arg marks self ⌝ }
+    fn with_codes(mut self, arg: u8, codes: u64) -> Wanted
+        ensures { λ r. ⌜ r ≡ with-codes arg codes self ⌝ }
     {
         if arg == 1 {
-            self.other = both(self.other, marks);
+            self.other = both(self.other, codes);
             return self;
         }
-        self.own = both(self.own, marks);
+        self.own = both(self.own, codes);
         self
     }
 
@@ -112,14 +76,8 @@ impl Wanted {
         if kind == ASPECT {
             return self.with_aspect(left);
         }
-        if kind == ORIENTATION {
-            return self.with_marks(arg, where_orientation(value));
-        }
-        if kind == ANNULMENT {
-            return self.with_marks(arg, where_annulment(value));
-        }
-        if kind == EXIT_ROUTE {
-            return self.with_marks(arg, where_exit(value));
+        if of_station(kind) {
+            return self.with_codes(arg, codes_where(kind, value));
         }
         self.with_line(where_line(value))
     }
@@ -137,16 +95,6 @@ pub fn wanted_of(readings: &[u8]) -> Wanted
     w
 }
 
-// The line: 0 free, 1 not.
-fn line_read(x: Situation) -> u16
-    ensures { λ r. ⌜ r ≡ line-read (unpacked x) ⌝ }
-{
-    if x.line_free() {
-        return 0;
-    }
-    1
-}
-
 fn as_wanted(w: Wanted, x: Situation) -> bool
     ensures { λ r. ⌜ r ≡ as-wanted w x ⌝ }
 {
@@ -156,7 +104,8 @@ fn as_wanted(w: Wanted, x: Situation) -> bool
     if !has(w.other, x.other_codes()) {
         return false;
     }
-    has(w.line, line_read(x))
+    let line = line_read(x);
+    has(w.line, line as u16)
 }
 
 fn aspects_hold(plan: Plan, x: Situation, readings: &[u8]) -> bool

@@ -7,7 +7,8 @@ use native.Mathlib.Decide.{decLt, ℕ-discrete}
 use lib.Dec.{T, eqb, leb, ltb, leb→le}
 use borrow.Author.Tests.{ltb-true, leb-true, eq-eqb, ne-eqb, le-leb, lt-leb}
 use Rattle.words.specs.Words.{_and_, _or_, if_then_else_}
-use Rattle.sections.specs.Sections.{none, _belongs-to_, only, both, either, _minus_, up-to, one-down, one-up}
+use Rattle.sections.specs.Sections.{none, _belongs-to_, only}
+use Rattle.sections.specs.Sets.{both, either, _minus_, up-to, one-down, one-up}
 use Rattle.words.proofs.Tests.{and-at, is-holds, holds-is}
 use Rattle.sections.proofs.SetLaws.{none-has}
 use Rattle.sections.proofs.SetsOfSets.{in-both, in-either, in-minus, in-only, in-given, in-one-down, in-one-up, in-up-to}

@@ -28,11 +28,11 @@ use situation::Situation;
 use situation::Station;
 use words::flag;
 
-pub const RED: u8 = 0;
+const RED: u8 = 0;
 
-pub const YELLOW: u8 = 1;
+const YELLOW: u8 = 1;
 
-pub const GREEN: u8 = 2;
+const GREEN: u8 = 2;
 
 // The signals of a direction that are not red, and those that are green, by their sections.
 pub struct Lights {

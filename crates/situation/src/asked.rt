@@ -1,6 +1,5 @@
 // What is asked of a situation.
 ghost use mathlib.Core.Path.{_≡_};
-ghost use Prim.Native.Nat.{_/_, _%_, _^_};
 ghost use Rattle.block.specs.Situation.{any-exit-route, track-clear, line-free, one-out-one-in, turnedRound, seen-from, held, station as Block·station};
 ghost use Rattle.situation.specs.Packed.{station, unpacked};
 use super::Situation;
@@ -44,20 +43,6 @@ impl Situation {
         }
     }
 
-    // The flags of own's orientation, annulment and exit route.
-    pub fn own_codes(self) -> u16
-        ensures { λ r. ⌜ r ≡ self .flags % 64 ⌝ }
-    {
-        (self.flags % 64) as u16
-    }
-
-    pub fn other_codes(self) -> u16
-        ensures { λ r. ⌜ r ≡ self .flags / 2 ^ 16 % 64 ⌝ }
-    {
-        let other = self.flags >> 16;
-        (other % 64) as u16
-    }
-
     // Own's SOBB is pending.
     pub fn asks(self) -> bool
         ensures { λ r. ⌜ r ≡ unpacked self .traffic .pending .own ⌝ }
@@ -71,7 +56,7 @@ impl Situation {
         has_flag(self.flags, OTHER_ASKS)
     }
 
-    pub fn track_clear(self) -> bool
+    fn track_clear(self) -> bool
         ensures { λ r. ⌜ r ≡ track-clear (unpacked self .traffic .track) ⌝ }
     {
         self.occupied == 0

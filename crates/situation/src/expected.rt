@@ -39,7 +39,7 @@ impl Situation {
     }
 
     // Own's area has a direction, and trains come that way.
-    pub fn expected(self, plan: Plan, s: Name, k: u8) -> bool
+    pub(crate) fn expected(self, plan: Plan, s: Name, k: u8) -> bool
         ensures { λ r. ⌜ r ≡ expected plan s k (unpacked self) ⌝ }
     {
         let own = self.own();

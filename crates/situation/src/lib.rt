@@ -1,6 +1,7 @@
 // A situation in words, as one of its stations sees it: own, and the other. It is kept as A sees it.
 pub mod asked;
 pub mod changed;
+pub mod codes;
 pub mod expected;
 pub mod flags;
 pub mod methods;

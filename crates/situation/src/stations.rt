@@ -110,18 +110,12 @@ impl Station {
     pub fn area_direction(self) -> Orientation
         ensures { λ r. ⌜ r ≡ areaDirection (station self) ⌝ }
     {
-        if self.under_afble() {
-            return Orientation {
-                out: true,
-                inward: false,
-            };
+        let afbli = self.under_afbli();
+        let afble = self.under_afble();
+        let way = self.orientation();
+        Orientation {
+            out: afble | (!afbli & way.out),
+            inward: !afble & (afbli | way.inward),
         }
-        if self.under_afbli() {
-            return Orientation {
-                out: false,
-                inward: true,
-            };
-        }
-        self.orientation()
     }
 }

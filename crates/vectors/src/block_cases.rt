@@ -6,7 +6,7 @@ use folvkin::block_calls::folvkin_plan;
 use folvkin::block_calls::folvkin_reading;
 use folvkin::block_calls::folvkin_situation;
 
-pub fn plan(input: &[u8], answer: &[u8]) -> bool {
+pub(crate) fn plan(input: &[u8], answer: &[u8]) -> bool {
     if input.len() != 2 {
         return false;
     }
@@ -14,7 +14,7 @@ pub fn plan(input: &[u8], answer: &[u8]) -> bool {
     same(&[refusal], answer)
 }
 
-pub fn sound(input: &[u8], answer: &[u8]) -> bool {
+pub(crate) fn sound(input: &[u8], answer: &[u8]) -> bool {
     if input.len() != 21 {
         return false;
     }
@@ -22,7 +22,7 @@ pub fn sound(input: &[u8], answer: &[u8]) -> bool {
     same(&[refusal], answer)
 }
 
-pub fn event(input: &[u8], answer: &[u8]) -> bool {
+pub(crate) fn event(input: &[u8], answer: &[u8]) -> bool {
     if input.len() != 23 {
         return false;
     }
@@ -35,7 +35,7 @@ pub fn event(input: &[u8], answer: &[u8]) -> bool {
     (answer[0] == refusal) & same(&si, &answer[1..])
 }
 
-pub fn aspects(input: &[u8], answer: &[u8]) -> bool {
+pub(crate) fn aspects(input: &[u8], answer: &[u8]) -> bool {
     if input.len() != 21 {
         return false;
     }
@@ -60,7 +60,7 @@ fn shows(refusal: u8, room: &[u8], answer: &[u8]) -> bool {
     (answer[0] == refusal) & kept & same(&room[..end], &answer[1..])
 }
 
-pub fn reading(input: &[u8], answer: &[u8]) -> bool {
+pub(crate) fn reading(input: &[u8], answer: &[u8]) -> bool {
     if input.len() != 23 {
         return false;
     }

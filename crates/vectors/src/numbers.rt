@@ -2,7 +2,7 @@
 ghost use Prim.Native.Nat.{_<_};
 use check::same;
 
-pub fn short(low: u8, high: u8) -> usize
+pub(crate) fn short(low: u8, high: u8) -> usize
     ensures { λ r. ⌜ r < 65536 ⌝ }
 {
     low as usize + 256 * (high as usize)
@@ -14,12 +14,12 @@ fn wide(byte: u8) -> u32
     byte as u32
 }
 
-pub fn word(a: u8, b: u8, c: u8, d: u8) -> u32 {
+pub(crate) fn word(a: u8, b: u8, c: u8, d: u8) -> u32 {
     wide(a) + 256 * wide(b) + 65536 * wide(c) + 16777216 * wide(d)
 }
 
 // Kind, amount, speed, tolerance, unit, pattern: refusal and the 13 bytes of the line, with two bytes after them that keep their values.
-pub fn typed(input: &[u8], answer: &[u8]) -> bool {
+pub(crate) fn typed(input: &[u8], answer: &[u8]) -> bool {
     if input.len() != 18 {
         return false;
     }

@@ -6,13 +6,13 @@ use folvkin::question_calls::folvkin_key;
 use folvkin::question_calls::folvkin_question;
 use folvkin::question_calls::folvkin_run;
 
-pub fn question(input: &[u8], answer: &[u8]) -> bool {
+pub(crate) fn question(input: &[u8], answer: &[u8]) -> bool {
     let refusal = folvkin_question(input);
     same(&[refusal], answer)
 }
 
 // Slot, question: refusal, place, event's refusal, holds.
-pub fn run(input: &[u8], answer: &[u8]) -> bool {
+pub(crate) fn run(input: &[u8], answer: &[u8]) -> bool {
     if input.len() < 6 {
         return false;
     }
@@ -39,7 +39,7 @@ fn untouched(room: &[u8]) -> bool {
 }
 
 // Continuation, length of the room, question: refusal, more, count, slots; later bytes keep their values.
-pub fn key(input: &[u8], answer: &[u8]) -> bool {
+pub(crate) fn key(input: &[u8], answer: &[u8]) -> bool {
     let mut room = [165u8; 8192];
     key_in(input, answer, &mut room)
 }

@@ -4,7 +4,7 @@ use keytext::write_lines;
 use keytext::write_refused;
 use keytext::write_total;
 
-pub fn text(input: &[u8], answer: &[u8]) -> bool {
+pub(crate) fn text(input: &[u8], answer: &[u8]) -> bool {
     let mut room = [0u8; 4096];
     text_in(input, answer, &mut room)
 }

@@ -33,5 +33,6 @@ as-wanted-spec =
     (λ c κs. search needs)
     returns-2
     (λ c κs. search needs)
+    (λ c. search needs)
     (λ c κs. search needs)
     returns-3)

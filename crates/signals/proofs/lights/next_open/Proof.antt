@@ -3,7 +3,8 @@ use Prim.Native.Nat.{ℕ}
 use mathlib.Core.Path.{_≡_, subst, sym, ap, ap₂, _∙_}
 use mathlib.Core.Bool.{Bool, not}
 use Rattle.words.specs.Words.{if_then_else_}
-use Rattle.sections.specs.Sections.{none, only, either, _minus_}
+use Rattle.sections.specs.Sections.{none, only}
+use Rattle.sections.specs.Sets.{either, _minus_}
 use Rattle.block.specs.Line.{first-section, terminus}
 use Rattle.block.specs.Situation.{station}
 use Rattle.block.specs.declared.line.Name.{Name}

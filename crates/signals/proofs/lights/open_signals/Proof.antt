@@ -1,7 +1,8 @@
 use mathlib.Core.Path.{_≡_, sym, ap, ap₂, subst, _∙_}
 use Prim.Native.Nat.{ℕ}
 use borrow.Author.Tests.{not-true}
-use Rattle.sections.specs.Sections.{only, either, _minus_}
+use Rattle.sections.specs.Sections.{only}
+use Rattle.sections.specs.Sets.{either, _minus_}
 use Rattle.block.specs.Line.{first-section, entrance}
 use Rattle.block.specs.declared.line.Name.{Name}
 use Rattle.situation.specs.Packed.{unpacked}

@@ -1,7 +1,7 @@
 use mathlib.Core.Path.{sym, _∙_}
 use borrow.Author.Needs.{needs}
-use Rattle.rules.proofs.wanted.line_read.Statement.{statement}
-use Rattle.rules.proofs.wanted.line_read.Tie as tie
+use Rattle.signals.proofs.readings.line_read.Statement.{statement}
+use Rattle.signals.proofs.readings.line_read.Tie as tie
 
 pub line-read-spec : {M : Type 1} → statement M
 line-read-spec =

@@ -1,5 +1,5 @@
 -- Of a station's first six flags, the values in which a code is the one asked are just those in which it is: a test that is computed at all
--- 64 of them. Assumes nothing.
+-- 64 of them.
 use Prim.Native.Nat.{ℕ, zero, suc, _%_, _<_}
 use mathlib.Core.Path.{_≡_, refl, sym, ap, ap₂, _∙_}
 use mathlib.Core.Bool.{Bool, true, false, not}
@@ -15,8 +15,8 @@ use Rattle.sections.proofs.SetLaws.{none-has}
 use Rattle.sections.proofs.SetsOfSets.{in-both}
 use Rattle.words.proofs.Tests.{and-at, and-true, holds-is}
 use Rattle.block.specs.Codes.{code, orientation-code, annulment-code, route-code}
 use Rattle.situation.specs.Packed.{flags-of, station-from}
-use Rattle.rules.specs.Wanted.{for-value, where-orientation, where-annulment, where-exit, where-line}
+use Rattle.situation.specs.CodeSets.{for-value, where-orientation, where-annulment, where-exit}
 
 -- ---- a test at each number below n
 abbrev all-below : ℕ → (ℕ → Bool) → Bool
@@ -60,10 +60,10 @@ pub no-code : (a b c v : ℕ) → (v ≡ 0 → ⊥) → (v ≡ 1 → ⊥) → (v
 no-code a b c v p q r = rw (ne-eqb v 0 p, ne-eqb v 1 q, ne-eqb v 2 r)
 
 -- what the sets say of k is whether the number n has the value: computed at the three values, and no other is below 3
-agrees : ℕ → ℕ → ℕ → ℕ → ℕ → Bool
+unfoldable pub agrees : ℕ → ℕ → ℕ → ℕ → ℕ → Bool
 agrees zeros ones twos k n = all-below 3 (λ v. alike (k belongs-to for-value zeros ones twos v) (eqb n v))
 
-by-value : (zeros ones twos k n : ℕ) → n < 3 → T (agrees zeros ones twos k n) → (v : ℕ) → (k belongs-to for-value zeros ones twos v) ≡ eqb n v
+pub by-value : (zeros ones twos k n : ℕ) → n < 3 → T (agrees zeros ones twos k n) → (v : ℕ) → (k belongs-to for-value zeros ones twos v) ≡ eqb n v
 unfolding agrees
 by-value zeros ones twos k n h t v = go (decLt v 3)
   where
@@ -75,7 +75,7 @@ by-value zeros ones twos k n h t v = go (decLt v 3)
         ∙ sym (ne-eqb n v (λ e. omega arith))
 
 -- ---- a code, read at the flags i and j
-code-below : (one two : Bool) → code one two < 3
+pub code-below : (one two : Bool) → code one two < 3
 code-below true two = omega arith
 code-below false true = omega arith
 code-below false false = omega arith
@@ -101,17 +101,3 @@ in-annulment = in-set 2 3 _ _ _ (omega arith) (omega arith) tt
 pub in-exit : (m v : ℕ) → ((m % 64) belongs-to where-exit v) ≡ eqb (route-code (station-from 0 (flags-of m) .exit)) v
 unfolding where-exit agrees
 in-exit = in-set 4 5 _ _ _ (omega arith) (omega arith) tt
-
--- ---- the line
-pub in-line : (free : Bool) (v : ℕ) → ((if free then 0 else 1) belongs-to where-line v) ≡ eqb (if free then 0 else 1) v
-unfolding where-line agrees
-in-line true = by-value 1 2 none 0 0 (omega arith) tt
-in-line false = by-value 1 2 none 1 1 (omega arith) tt
-
-pub either-way : (b : Bool) (n : ℕ) → (if b then n else n) ≡ n
-either-way true n = refl
-either-way false n = refl
-
-pub no-line : (v : ℕ) → (v ≡ 0 → ⊥) → (v ≡ 1 → ⊥) → where-line v ≡ none
-unfolding where-line
-no-line v p q = rw (ne-eqb v 0 p, ne-eqb v 1 q) (either-way (eqb v 2) none)

@@ -1,10 +1,10 @@
 use borrow.Author.Tests.{eq-eqb, ne-eqb}
 use borrow.Author.Needs.{needs}
-use Rattle.rules.proofs.wanted.Wanted.with_marks.Statement.{statement}
-use Rattle.rules.proofs.wanted.Wanted.with_marks.Tie as tie
+use Rattle.rules.proofs.wanted.Wanted.with_codes.Statement.{statement}
+use Rattle.rules.proofs.wanted.Wanted.with_codes.Tie as tie
 
-pub with-marks-spec : {M : Type 1} → statement M
-with-marks-spec =
+pub with-codes-spec : {M : Type 1} → statement M
+with-codes-spec =
     tie.close
     (tie.spec
     (λ c κs. search needs)
