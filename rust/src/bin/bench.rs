@@ -1,6 +1,6 @@
 //! Measures the library against the plain implementation:
 //!
-//!     bench [--rounds R | --instructions FILE]
+//!     bench [--rounds R | --instructions FILE | --callgrind FILE]
 //!
 //! Both run in the same process on the same inputs, by turns; the best of R
 //! rounds counts. A ratio is the library's time over the plain one's: below
@@ -10,12 +10,15 @@
 //! in between. Both give the same answers, or the program stops.
 //!
 //! With `--instructions` executed instructions are counted instead, once: FILE
-//! is where emulated/count.c keeps their count, under an emulator.
+//! is where emulated/count.c keeps their count, under an emulator. With
+//! `--callgrind` they are counted on an x86-64 machine by valgrind's callgrind,
+//! whose output file FILE is; see tools/bench-counted.sh.
 //!
 //! Where the library is not linked (see build.rs) only the plain
 //! implementation is measured: a time under an emulator says nothing.
 
-use std::fs::File;
+use std::cell::Cell;
+use std::fs::{File, read_to_string};
 use std::hint::black_box;
 use std::io::{Read, Seek, SeekFrom};
 use std::process::ExitCode;
@@ -57,6 +60,7 @@ fn main() -> ExitCode {
                 return ExitCode::FAILURE;
             }
         },
+        ["--callgrind", file] => (1, Meter::Dumps(file.to_string(), Cell::new((0, 0)))),
         _ => return usage(),
     };
     let bench = Bench { rounds, meter };
@@ -67,7 +71,7 @@ fn main() -> ExitCode {
     }
     match bench.meter {
         Meter::Clock(_) => println!("Best of {rounds} rounds.\n"),
-        Meter::Count(_) => println!("Executed instructions.\n"),
+        Meter::Count(_) | Meter::Dumps(..) => println!("Executed instructions.\n"),
     }
     bench.keys();
     bench.calls();
@@ -76,7 +80,7 @@ fn main() -> ExitCode {
 }
 
 fn usage() -> ExitCode {
-    eprintln!("usage: bench [--rounds R | --instructions FILE]");
+    eprintln!("usage: bench [--rounds R | --instructions FILE | --callgrind FILE]");
     ExitCode::from(2)
 }
 
@@ -86,6 +90,9 @@ enum Meter {
     Clock(Instant),
     /// Executed instructions, as the file has them.
     Count(File),
+    /// Executed instructions, as callgrind dumps them into FILE.1, FILE.2 and
+    /// so on; how many dumps there were, and their sum.
+    Dumps(String, Cell<(u32, u64)>),
 }
 
 impl Meter {
@@ -98,6 +105,16 @@ impl Meter {
                 file.read_exact(&mut bytes).expect("8 bytes of the count");
                 u64::from_le_bytes(bytes) as f64
             }
+            Meter::Dumps(file, so_far) => {
+                ask_callgrind(DUMP);
+                let (dumps, sum) = so_far.get();
+                let text = read_to_string(format!("{file}.{}", dumps + 1)).expect("a dump of callgrind");
+                let total = text.lines().find_map(|line| line.strip_prefix("totals: ")).expect("its total");
+                let sum = sum + total.trim().parse::<u64>().expect("a number");
+                so_far.set((dumps + 1, sum));
+                ask_callgrind(ZERO);
+                sum as f64
+            }
         }
     }
 
@@ -107,16 +124,40 @@ impl Meter {
         match self {
             Meter::Clock(_) => 2e6,
             Meter::Count(_) => 1e6,
+            Meter::Dumps(..) => 1e7,
         }
     }
 
     fn unit(&self) -> &'static str {
         match self {
             Meter::Clock(_) => "ns",
-            Meter::Count(_) => "instructions",
+            Meter::Count(_) | Meter::Dumps(..) => "instructions",
         }
     }
 }
+
+/// Requests to callgrind: write what was counted since the last time; begin to
+/// count from zero.
+const DUMP: u64 = 0x4354_0000;
+const ZERO: u64 = 0x4354_0001;
+
+/// Valgrind knows a request by instructions that do nothing.
+#[cfg(target_arch = "x86_64")]
+fn ask_callgrind(what: u64) {
+    let request = [what, 0, 0, 0, 0, 0];
+    // SAFETY: without valgrind the instructions change nothing (rdi comes
+    // round to its value); with it the request is read and rdx written.
+    unsafe {
+        std::arch::asm!(
+            "rol rdi, 3", "rol rdi, 13", "rol rdi, 61", "rol rdi, 51", "xchg rbx, rbx",
+            in("rax") request.as_ptr(),
+            inout("rdx") 0_u64 => _,
+        );
+    }
+}
+
+#[cfg(not(target_arch = "x86_64"))]
+fn ask_callgrind(_: u64) {}
 
 struct Bench {
     rounds: u32,
