@@ -5,6 +5,7 @@
 #include "folvkin.h"
 
 int main(int count, char **words) {
+    /* A question is its records laid end to end. */
     uint8_t paper[128] = "LB\4\2" "SI\1\0\0\0\0\0\0\0\0\0\0\0\0\0\0\0\0\0\0"
                          "EV\4\1\0\2\1\16\0\21\1" "RD\1\1\1\2" "LN\4";
     uint8_t after[6] = {255}, room[60];

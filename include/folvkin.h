@@ -1,21 +1,31 @@
 /* folvkin.h: the interface of Folvkin for other languages.
  *
  * Link with libfolvkin.a (`rt staticlib folvkin` writes it to
- * target/staticlib; it is x86-64 code for Linux). "Document" is document 01,
- * "Scope and exact rules: integrated line block papers".
+ * target/staticlib; it is x86-64 code for Linux). All that crosses the
+ * interface is the bytes of document 01, "Scope and exact rules: integrated
+ * line block papers"; docs/RECORDS.md has every byte.
+ *
+ *   plan       the record LB, 4 bytes, as it stands in a question
+ *   situation  the record SI, 21 bytes, as it stands in a question
+ *   event      two bytes, code and argument
+ *   reading    two bytes, kind and argument
+ *   question   the records LB, SI, EV, RD, LN end to end: a plan, a situation
+ *              and the rest laid one after the other are a question
+ *   slot       six bytes, a sequence of events: its length, then their places
+ *              in EV from 1, then zeros
  *
  * What holds of every function:
  *
  *   - It takes any numbers and any bytes; nothing has to be checked before.
  *   - A slice is a pointer and then its length in bytes. The pointer must be
- *     to so many bytes that may be read (and written, where it is not const);
- *     it may not be null, even with length 0. Lent slices may not overlap
- *     where one of them is written to.
+ *     to so many bytes that may be read (and written, for a room); it may not
+ *     be null, even with length 0. A room may not overlap another slice.
  *   - It reads and writes nothing but what it is lent, keeps no pointer,
  *     allocates nothing and has no state: calls from several threads at once
  *     are fine as long as they do not write to the same memory.
+ *   - Bytes of a room past what was written keep their values.
  *   - Where it refuses, the refusal's number comes back, all other fields of
- *     the result are zero and no lent byte is changed.
+ *     the result are zero and no byte of the room is changed.
  *
  * Refusals (0 is accepted):
  *
@@ -33,8 +43,8 @@
  *   12  the own orientation does not allow it
  *   13  the own station is in and the line is not free
  *   14  the blocking reminder is on
- *   20  a wrong mark, bytes missing or left over, a count out of range; a
- *       situation of another length than 19 bytes
+ *   20  a record with wrong letters, bytes missing or left over, a count out
+ *       of range; an event or a reading of another length than two
  *   21  LN above 5, an event listed twice, a reading out of range
  *   22  continuation or candidate's slot malformed, or not of six bytes
  *   23  numeric question or unit byte out of range
@@ -42,27 +52,6 @@
  *
  * Where several apply, the first in the order 20, 1, 2, 3, 4, 21, 22, 24, then
  * 5 to 14; for numbers 23, then 24.
- *
- * A plan is n, the number of sections (2 to 16, numbered from A), and b, the
- * frontier (1 to n-1): sections 1..b are A's area, the others B's. A section k
- * has the signal k towards B and the signal 128+k towards A. Stations are 0
- * for A and 1 for B.
- *
- * A situation is the 19 bytes of record SI without its mark:
- *
- *    0      link: 0 down, 1 up
- *    1,  2  orientation of A, of B: 0 none, 1 out, 2 in
- *    3,  4  annulment of A, of B: 0 none, 1 AFBLI, 2 AFBLE
- *    5,  6  exit route of A, of B: 0 none, 1 normal, 2 special
- *    7,  8  entry route of A, of B: 0, 1
- *    9      pending SOBB: 0 none, 1 asked by A, 2 by B
- *   10..12  BILC, BSLG, blocking reminder: bit 0 for A, bit 1 for B
- *   13, 14  occupied sections: bit k-1 for section k, low byte first
- *   15, 16  block signals towards B held by BSLB, likewise
- *   17, 18  block signals towards A held by BSLB, likewise
- *
- * A slot is six bytes: the length of a sequence of events (0 to 5), then the
- * places of its events in record EV, from 1, then zeros.
  */
 #ifndef FOLVKIN_H
 #define FOLVKIN_H
@@ -74,108 +63,78 @@
 extern "C" {
 #endif
 
-/* Whether n, b is a plan.
- *   n  number of sections
- *   b  frontier
- * Returns 0, or refusal 1. */
-uint8_t folvkin_plan(uint8_t n, uint8_t b);
+/* Whether a plan is accepted: n sections, 2 to 16, and a frontier b, 1 to n-1.
+ * Returns 0, or refusal 20 or 1. */
+uint8_t folvkin_plan(const uint8_t *plan, size_t plan_length);
 
 /* Whether a situation is sound.
- *   n, b       the plan
- *   si         the situation; read only
- *   si_length  its length; any other than 19 is refused by 20
  * Returns 0, or refusal 20, 1 or 2. */
-uint8_t folvkin_situation(uint8_t n, uint8_t b, const uint8_t *si, size_t si_length);
+uint8_t folvkin_situation(const uint8_t *plan, size_t plan_length, const uint8_t *situation,
+                          size_t situation_length);
 
 /* Has an event happen.
- *   n, b       the plan
- *   si         the situation. An accepted event rewrites its 19 bytes to the
- *              situation that it leads to; a refused one changes no byte
- *   si_length  its length; any other than 19 is refused by 20
- *   code       the event, 1 to 22:
- *                1 SOBB, 2 COBB, 3 AFBLI, 4 AFBLE, 5 DAFBL, 6 BILC, 7 DILC,
- *                8 BSLG, 9 its release, 10 BSLB, 11 its release, 12 reminder
- *                on, 13 off, 14 exit route normal, 15 special, 16 released,
- *                17 entry route set, 18 released, 19 section occupied,
- *                20 freed, 21 link lost, 22 restored
- *   argument   a block signal for 10 and 11 (2..n, 129..127+n), a section for
- *              19 and 20 (1..n), 0 for 21 and 22, else a station (0, 1)
- * Returns 0, or refusal 20, 1, 2, 3, 4, or the event's own, 5 to 14. */
-uint8_t folvkin_event(uint8_t n, uint8_t b, uint8_t *si, size_t si_length, uint8_t code,
-                      uint8_t argument);
+ *   room  takes the situation after, as its record, ready to be lent to the
+ *         next call; less than 96 bytes is refused by 24, whatever the length
+ *         written
+ * Returns refusal + 2^8 name + 2^16 length: how many bytes were written. The
+ * name is 0. Refusals 20, 1, 2, 3, 4, 24, then the event's own, 5 to 14. */
+uint64_t folvkin_event(const uint8_t *plan, size_t plan_length, const uint8_t *situation,
+                       size_t situation_length, const uint8_t *event, size_t event_length, uint8_t *room,
+                       size_t room_length);
 
 /* Shows the aspects of all signals: 0 red, 1 yellow, 2 green.
- *   n, b         the plan
- *   si           the situation; read only
- *   si_length    its length; any other than 19 is refused by 20
- *   room         takes 2n bytes: the aspects of signals 1..n, then of
- *                129..128+n. Later bytes keep their values
- *   room_length  its length; less than 2n is refused by 24
+ *   room  takes 2n bytes: the aspects of signals 1..n, then of 129..128+n;
+ *         less than 2n is refused by 24
  * Returns 0, or refusal 20, 1, 2 or 24. */
-uint8_t folvkin_aspects(uint8_t n, uint8_t b, const uint8_t *si, size_t si_length, uint8_t *room,
-                        size_t room_length);
+uint8_t folvkin_aspects(const uint8_t *plan, size_t plan_length, const uint8_t *situation,
+                        size_t situation_length, uint8_t *room, size_t room_length);
 
 /* Reads a value off a situation.
- *   n, b       the plan
- *   si         the situation; read only
- *   si_length  its length; any other than 19 is refused by 20
- *   kind       1 a signal's aspect, 2 orientation, 3 annulment, 4 exit route,
- *              5 line (0 free, 1 not)
- *   argument   a signal for 1, a station for 2 to 4, 0 for 5
- * Returns refusal + 256 * value. Refusals 20, 1, 2, and 21 for a kind or an
+ *   reading  kind and argument: 1 any signal's aspect, 2 orientation, 3
+ *            annulment, 4 exit route (argument station), 5 line (argument 0)
+ * Returns refusal + 2^8 value. Refusals 20, 1, 2, and 21 for a kind or an
  * argument out of range. */
-uint32_t folvkin_reading(uint8_t n, uint8_t b, const uint8_t *si, size_t si_length, uint8_t kind,
-                         uint8_t argument);
+uint32_t folvkin_reading(const uint8_t *plan, size_t plan_length, const uint8_t *situation,
+                         size_t situation_length, const uint8_t *reading, size_t reading_length);
 
 /* Whether a question is accepted.
- *   bytes         the question: records LB, SI, EV, RD, LN; read only
- *   bytes_length  its length
- * Returns 0, or refusal 20, 1, 2, 3, 4 or 21. */
-uint8_t folvkin_question(const uint8_t *bytes, size_t bytes_length);
+ * Returns 0, or refusal 20, 1, 2, 3, 4 or 21; 3 and 4 go event by event. */
+uint8_t folvkin_question(const uint8_t *question, size_t question_length);
 
 /* Writes a part of a question's key.
- *   bytes         the question; read only
- *   bytes_length  its length
- *   after         the slot to continue after, an answer or not, with length
- *                 and places within the question; or 255 and five zeros, from
- *                 the start; read only
- *   after_length  its length; any other than 6 is refused by 22
- *   room          takes the next slots of the key, six bytes each, as many as
- *                 fit or remain. Bytes after them keep their values
- *   room_length   its length; less than 6 is refused by 24
- * Returns refusal + 256 * more + 65536 * count: count slots were written; more
- * is 1 if further ones remain, which a call after the last slot written gives.
+ *   after  the slot to continue after, an answer or not, with length and
+ *          places within the question; or 255 and five zeros: from the start
+ *   room   takes the next slots, six bytes each, as many as fit or remain;
+ *          less than six bytes is refused by 24
+ * Returns refusal + 2^8 more + 2^16 count: count slots were written; more is 1
+ * if further ones remain, which a call after the last slot written gives.
  * Refusals 20, 1, 2, 3, 4, 21, 22, 24. */
-uint64_t folvkin_key(const uint8_t *bytes, size_t bytes_length, const uint8_t *after,
+uint64_t folvkin_key(const uint8_t *question, size_t question_length, const uint8_t *after,
                      size_t after_length, uint8_t *room, size_t room_length);
 
-/* Runs a candidate's slot.
- *   bytes         the question; read only
- *   bytes_length  its length
- *   slot          the candidate's slot, with length and places within the
- *                 question; read only
- *   slot_length   its length; any other than 6 is refused by 22
- * Returns refusal + 256 * place + 65536 * event's refusal + 16777216 * holds.
- * Where an event is refused, place is its place within the slot, from 1, and
- * the event's refusal is 5 to 14; else place is 0, and holds is 1 if all
- * readings hold at the end. Refusals 20, 1, 2, 3, 4, 21, 22. */
-uint32_t folvkin_run(const uint8_t *bytes, size_t bytes_length, const uint8_t *slot,
+/* Runs a candidate's slot, which has length and places within the question. It
+ * stops at the first refused event and tells its place and refusal, or says
+ * whether all readings hold.
+ * Returns refusal + 2^8 place + 2^16 event's refusal + 2^24 holds + 2^32 name.
+ * The place is that within the slot, from 1, and 0 if no event is refused;
+ * holds is 1 if all readings hold at the end. The name is 0. Refusals 20, 1,
+ * 2, 3, 4, 21, 22. */
+uint64_t folvkin_run(const uint8_t *question, size_t question_length, const uint8_t *slot,
                      size_t slot_length);
 
 /* Marks a number typed by a candidate.
- *   kind         1 seconds to run `amount` metres, 2 metres run in `amount`
- *                seconds
- *   amount       1 to 20000 for kind 1, 1 to 10000 for kind 2
- *   speed        km/h, 1 to 200
- *   tolerance    thousandths, 0 to 10000
- *   unit         0 blank, 1 seconds, 2 metres
- *   pattern      the bits of the float typed (IEEE 754, 32 bits)
- *   room         takes the 13 bytes of the sheet line, low bytes first: the
- *                number as given (4; zero where blank), the model value as a
- *                float (4), the verdict (1: 0 wrong, 1 right, 2 blank, 3 other
- *                unit, 4 no number), the signed error in thousandths (4; two's
- *                complement). Later bytes keep their values
- *   room_length  its length; less than 13 is refused by 24
+ *   kind       1 seconds to run `amount` metres, 2 metres run in `amount`
+ *              seconds
+ *   amount     1 to 20,000 for kind 1, 1 to 10,000 for kind 2
+ *   speed      km/h, 1 to 200
+ *   tolerance  thousandths, 0 to 10,000
+ *   unit       0 blank, 1 seconds, 2 metres
+ *   pattern    the bits of the float typed (IEEE 754, 32 bits)
+ *   room       takes the 13 bytes of the sheet line, low byte first: the
+ *              number as given (4; zero where blank), the model value as a
+ *              float (4), the verdict (1: 0 wrong, 1 right, 2 blank, 3 other
+ *              unit, 4 no number), the signed error in thousandths (4, two's
+ *              complement); less than 13 bytes is refused by 24
  * Returns 0, or refusal 23 (any of the numbers out of range), then 24. */
 uint8_t folvkin_mark(uint8_t kind, uint32_t amount, uint32_t speed, uint32_t tolerance, uint8_t unit,
                      uint32_t pattern, uint8_t *room, size_t room_length);

@@ -45,8 +45,10 @@ fn main() {
 
 /// Compiles bridge/bridge.c for x86-64 and links it with the library.
 fn build_bridge(package: &Path, library: &Path) {
-    let source = package.join("bridge/bridge.c");
-    println!("cargo::rerun-if-changed={}", source.display());
+    let sources = package.join("bridge");
+    let header = package.join("../include");
+    println!("cargo::rerun-if-changed={}", sources.display());
+    println!("cargo::rerun-if-changed={}", header.display());
     let Some(rt) = find_program("rt").and_then(|rt| fs::canonicalize(rt).ok()) else {
         fail(
             "`rt` is not on the PATH: the library is x86-64 code, and the tools to run it here are found beside `rt`.",
@@ -58,8 +60,15 @@ fn build_bridge(package: &Path, library: &Path) {
     let object = out.join("bridge.o");
     let program = out.join("bridge");
     run(Command::new(toolchain.join("bin/clang"))
-        .args(["--target=x86_64-unknown-linux-gnu", "-O2", "-ffreestanding", "-fPIC", "-Wall", "-c", "-o"])
-        .args([&object, &source]));
+        .args(["--target=x86_64-unknown-linux-gnu", "-O2", "-ffreestanding", "-fPIC", "-Wall", "-nostdinc"])
+        .arg("-I")
+        .arg(&sources)
+        .arg("-I")
+        .arg(&header)
+        .arg("-c")
+        .arg(sources.join("bridge.c"))
+        .arg("-o")
+        .arg(&object));
     run(Command::new(kit.join("bin/rattle-link"))
         .args(["--target", "x86_64-unknown-linux-gnu", "--toolchain"])
         .arg(&toolchain)

@@ -1,99 +1,102 @@
 #!/usr/bin/env python3
-"""make-vectors.py CASES.tsv.. > crates/vectors/stdin: outside cases, a line each, as the compact records that the program `vectors` reads.
+"""make-vectors.py CASES.tsv.. > crates/vectors/stdin: cases, a line each, as the compact records that the program `vectors` reads. Its cases are
+the outside ones, what number-cases.py prints, what question-cases.py prints of the papers marked-run, pending-sobb and link-down, and
+cases/key-program.tsv, in this order.
 
-A record is: the kind of the case, the lengths of its input and of its answer (two bytes each, low byte first), the input, the answer.
-Beside each kind below stands what its input and its answer hold; numbers of more than one byte have their low byte first.
-"""
+A record is a head of 21 bytes, the case's three inputs, and what the call is to write into the room. The head has the kind of the case (1 byte), the
+length of the room (4), the number that the call is to answer (8), the lengths of the three inputs (2 each) and of all that follows the head (2).
+Numbers have their low byte first. Each function below takes the words of a case and of its answer, and gives the inputs, the length of the room, the
+number, packed as the call packs it, and the bytes written."""
 import sys
 
-
-def number(text, size):
-    return int(text).to_bytes(size, 'little')
+# What a writer of lines may want of the room beyond the text that it leaves: ten lines of at most 20 bytes.
+LINES = 200
 
 
 def hexed(text):
     return b'' if text == '-' else bytes.fromhex(text)
 
 
-def bytes_of(words):
-    return bytes(int(w) for w in words)
+def number(text, size):
+    return int(text).to_bytes(size, 'little')
 
 
-# n, b -> refusal
-def plan(words, answer):
-    return bytes_of(words), bytes_of(answer)
+def judged(words, answer):
+    """Plan, plan and situation, or question: the refusal."""
+    return [hexed(w) for w in words], 0, int(answer[0]), b''
 
 
-# n, b, 19 bytes of SI -> refusal
-def sound(words, answer):
-    return bytes_of(words[:2]) + hexed(words[2]), bytes_of(answer)
-
-
-# n, b, 19 bytes of SI, code, argument -> refusal, 19 bytes of SI after
 def event(words, answer):
-    return bytes_of(words[:2]) + hexed(words[2]) + bytes_of(words[3:]), bytes_of(answer[:1]) + hexed(answer[1])
+    *given, room = words
+    refusal, name, after = answer
+    after = hexed(after)
+    return [hexed(w) for w in given], room, int(refusal) + (int(name) << 8) + (len(after) << 16), after
 
 
-# n, b, 19 bytes of SI -> refusal, aspects
 def aspects(words, answer):
-    return bytes_of(words[:2]) + hexed(words[2]), bytes_of(answer)
+    *given, room = words
+    refusal, shown = answer
+    return [hexed(w) for w in given], room, int(refusal), hexed(shown)
 
 
-# n, b, 19 bytes of SI, kind, argument -> refusal, value
 def reading(words, answer):
-    return bytes_of(words[:2]) + hexed(words[2]) + bytes_of(words[3:]), bytes_of(answer)
+    refusal, value = answer
+    return [hexed(w) for w in words], 0, int(refusal) + (int(value) << 8), b''
 
 
-# question -> refusal
-def question(words, answer):
-    return hexed(words[0]), bytes_of(answer)
-
-
-# continuation (6), length of the room (2), question -> refusal, more, count (4), slots
 def key(words, answer):
+    question, after, room = words
     refusal, count, more, slots = answer
-    return hexed(words[1]) + number(words[2], 2) + hexed(words[0]), bytes_of([refusal, more]) + number(count, 4) + hexed(slots)
+    return [hexed(question), hexed(after)], room, int(refusal) + (int(more) << 8) + (int(count) << 16), hexed(slots)
 
 
-# slot (6), question -> refusal, place, event's refusal, holds
 def run(words, answer):
-    return hexed(words[1]) + hexed(words[0]), bytes_of(answer)
+    refusal, place, event_refusal, name, holds = map(int, answer)
+    return [hexed(w) for w in words], 0, refusal + (place << 8) + (event_refusal << 16) + (holds << 24) + (name << 32), b''
 
 
-# kind, amount (4), speed (4), tolerance (4), unit, pattern (4) -> refusal, 13 bytes of the sheet line
-def numeric(words, answer):
-    kind, amount, speed, tolerance, unit, pattern = words
-    asked = number(kind, 1) + number(amount, 4) + number(speed, 4) + number(tolerance, 4)
-    return asked + number(unit, 1) + number(pattern, 4), bytes_of(answer[:1]) + hexed(answer[1])
+def typed(words, answer):
+    """One input: kind (1 byte), amount, speed, tolerance (4 each), unit (1), pattern (4)."""
+    *given, room = words
+    refusal, line = answer
+    return [b''.join(map(number, given, (1, 4, 4, 4, 1, 4)))], room, int(refusal), hexed(line)
 
 
-# question -> the key program's output
 def keytext(words, answer):
-    return hexed(words[0]), ' '.join(answer).replace('|', '\n').encode()
+    """The number is the length of the text."""
+    text = ' '.join(answer).replace('|', '\n').encode()
+    return [hexed(words[0])], len(text) + LINES, len(text), text
 
 
 KINDS = {
-    'plan': (1, plan),
-    'sound': (2, sound),
+    'plan': (1, judged),
+    'sound': (2, judged),
     'event': (3, event),
     'aspects': (4, aspects),
     'reading': (5, reading),
-    'question': (6, question),
+    'question': (6, judged),
     'key': (7, key),
     'run': (8, run),
-    'number': (9, numeric),
+    'number': (9, typed),
     'keytext': (10, keytext),
 }
+
+
+def record(line):
+    case, answer = line.rstrip('\n').split('\t')
+    name, *words = case.split(' ')
+    kind, parts = KINDS[name]
+    inputs, room, told, written = parts(words, answer.split(' '))
+    inputs += [b''] * (3 - len(inputs))
+    body = b''.join(inputs) + written
+    lengths = b''.join(number(len(part), 2) for part in (*inputs, body))
+    return number(kind, 1) + number(room, 4) + number(told, 8) + lengths + body
 
 
 def main():
     for name in sys.argv[1:]:
         for line in open(name, encoding='ascii'):
-            case, answer = line.rstrip('\n').split('\t')
-            words = case.split(' ')
-            kind, record = KINDS[words[0]]
-            given, right = record(words[1:], answer.split(' '))
-            sys.stdout.buffer.write(bytes([kind]) + number(len(given), 2) + number(len(right), 2) + given + right)
+            sys.stdout.buffer.write(record(line))
 
 
 main()

@@ -4,7 +4,7 @@
   number-cases.py               prints the cases, one a line: the case, a tab, its answer
   number-cases.py check FILE    holds this script's arithmetic to the `number` cases of FILE
 
-A case is `number KIND AMOUNT SPEED TOLERANCE UNIT BITS`, its answer `R LINE`: R the refusal, LINE the 13 bytes in hex, `-` where refused.
+A case is `number KIND AMOUNT SPEED TOLERANCE UNIT PATTERN ROOM`, its answer `REFUSAL LINE`: LINE the 13 bytes in hex, `-` where refused.
 The cases are the same at every run."""
 import random
 import sys
@@ -14,6 +14,7 @@ SIGN = 1 << 31
 INFINITE = 0x7F800000
 GREATEST = INFINITE - 1  # the pattern of the greatest finite float
 NAN = 0x7FC00000
+LINE = 13  # bytes of a sheet line
 
 
 # ---- the document's rules
@@ -54,9 +55,11 @@ def nearest(x):
     return low if down < up or (down == up and low % 2 == 0) else low + 1
 
 
-def line(kind, amount, speed, tolerance, unit, bits):
+def line(kind, amount, speed, tolerance, unit, bits, room):
     if not in_range(kind, amount, speed, tolerance, unit):
         return '23 -'
+    if room < LINE:
+        return '24 -'
     exact = exact_answer(kind, amount, speed)
     given, error = (0 if unit == 0 else bits), 0
     if unit == 0:
@@ -160,9 +163,17 @@ def drawn(count):
         yield kind, amount, speed, tolerance, kind, draw.choice((float_at(near), draw.getrandbits(32)))
 
 
+def rooms():
+    for room in (*range(LINE + 2), 100, 4096):
+        for typed in ((1, 1500, 100, 50, 1, 0x42580000), (1, 1500, 100, 50, 2, NAN), (2, 3600, 120, 0, 0, 1), (2, 10001, 120, 0, 2, 0)):
+            yield typed + (room,)
+
+
 def cases():
     for group in (tolerance_borders(), error_borders(), model_values(), small_and_huge(), no_numbers(), other_units(), out_of_range(), drawn(40)):
-        yield from group
+        for typed in group:
+            yield typed + (LINE + 2,)
+    yield from rooms()
 
 
 def check(path):

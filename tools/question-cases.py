@@ -1,7 +1,7 @@
 #!/usr/bin/env python3
-"""question-cases.py HEX HEX HEX: prints cases `question HEX<TAB>REFUSAL` for papers near three accepted ones: every single-byte change to a
-dozen telling values, every cut, and every lengthening by one byte. question-cases.py --verify FILE holds the judgment to the `question` cases
-of FILE. The judgment is written from document 01 alone."""
+"""question-cases.py PAPER..: prints cases `question HEX<TAB>REFUSAL` for papers near accepted ones, each given as a file of its bytes: every
+single-byte change to a dozen telling values, every cut, and every lengthening by one byte. question-cases.py --verify FILE holds the judgment to
+the `question` cases of FILE. The judgment is written from document 01 alone."""
 import sys
 
 MARKS = [b"LB", b"SI", b"EV", b"RD", b"LN"]
@@ -135,13 +135,13 @@ def verify(path):
 def main(words):
     if len(words) == 2 and words[0] == "--verify":
         return 0 if verify(words[1]) else 1
-    if len(words) != 3:
+    if not words:
         print(__doc__, file=sys.stderr)
         return 2
-    for text in words:
-        paper = from_text(text)
+    for name in words:
+        paper = open(name, "rb").read()
         if refusal(paper) != 0:
-            print("not accepted:", text, file=sys.stderr)
+            print("not accepted:", name, file=sys.stderr)
             return 1
         for case in near(paper):
             print(f"question {case.hex() or '-'}\t{refusal(case)}")

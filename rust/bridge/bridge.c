@@ -1,24 +1,29 @@
 /* Makes the library's calls for a program on another processor. It reads
  * batches of cases from standard input and writes what the calls returned and
- * left in memory to standard output; all numbers have the low byte first.
+ * left in their rooms to standard output; all numbers have the low byte first.
  *
  *   batch:  u32 length of what follows, then cases
  *   case:   u8 kind, u8 placement of each slice, u32 numbers[6],
- *           u32 lengths[3], then the bytes of the three slices
+ *           u32 lengths[4], then the bytes of the four slices: three that are
+ *           read, and the room
  *   reply:  u32 length of what follows, then for each case
- *           u64 returned, u32 faults, u32 length, the bytes lent for writing
+ *           u64 returned, u32 faults, u32 length, the bytes of the room
  *
- * Placement: 0 flush with the start of the memory, 255 flush with its end,
- * else so many bytes from the start. The memory lies between two pages that
- * may not be touched. Faults: 1 guard bytes changed, 2 bytes lent for reading
- * changed.
+ * Kinds, numbers and slices are those of the list in src/interface.rs, in its
+ * order. Placement: 0 flush with the start of the memory, 255 flush with its
+ * end, else so many bytes from the start. The memory lies between two pages
+ * that may not be touched. Faults: 1 guard bytes changed, 2 bytes lent for
+ * reading changed.
  *
- * It is compiled with no C header at hand, so it declares what it uses. */
+ * It is compiled with no C header at hand but stddef.h and stdint.h beside it,
+ * so it declares what it uses. */
 
-typedef unsigned char u8;
-typedef unsigned int u32;
-typedef unsigned long u64;
-typedef unsigned long usize;
+#include "folvkin.h"
+
+typedef uint8_t u8;
+typedef uint32_t u32;
+typedef uint64_t u64;
+typedef size_t usize;
 
 long read(int file, void *to, usize length);
 long write(int file, const void *from, usize length);
@@ -28,25 +33,17 @@ void *memcpy(void *to, const void *from, usize length);
 int memcmp(const void *one, const void *other, usize length);
 void _exit(int status);
 
-u8 folvkin_plan(u8 n, u8 b);
-u8 folvkin_situation(u8 n, u8 b, const u8 *si, usize si_length);
-u8 folvkin_event(u8 n, u8 b, u8 *si, usize si_length, u8 code, u8 argument);
-u8 folvkin_aspects(u8 n, u8 b, const u8 *si, usize si_length, u8 *room, usize room_length);
-u32 folvkin_reading(u8 n, u8 b, const u8 *si, usize si_length, u8 kind, u8 argument);
-u8 folvkin_question(const u8 *bytes, usize bytes_length);
-u64 folvkin_key(const u8 *bytes, usize bytes_length, const u8 *after, usize after_length,
-                u8 *room, usize room_length);
-u32 folvkin_run(const u8 *bytes, usize bytes_length, const u8 *slot, usize slot_length);
-u8 folvkin_mark(u8 kind, u32 amount, u32 speed, u32 tolerance, u8 unit, u32 pattern,
-                u8 *room, usize room_length);
-
 enum { PAGE = 4096, LOOKED_AT = 64 };
 enum { SMALL = 2 * PAGE, LARGE = 512 * PAGE, BATCH = 16 << 20 };
+enum { NUMBERS = 6, READ = 3, ROOM = READ, SLICES };
+enum { GUARDS_CHANGED = 1, READ_CHANGED = 2 };
 
 struct lent {
     u8 *memory;
     usize size, start, length;
 };
+
+static struct lent lent[SLICES];
 
 static u8 guard(usize at) { return (u8)(at * 167 >> 1) ^ 0x5a; }
 
@@ -56,32 +53,35 @@ static u8 *pages(usize size) {
     return whole + PAGE;
 }
 
-static void make(struct lent *lent, usize size) {
-    lent->memory = pages(size);
-    lent->size = size;
-    lent->start = lent->length = 0;
-    for (usize at = 0; at < size; at++) lent->memory[at] = guard(at);
+static void make_all(void) {
+    for (int k = 0; k < SLICES; k++) {
+        lent[k].size = k == ROOM ? LARGE : SMALL;
+        lent[k].memory = pages(lent[k].size);
+        lent[k].start = lent[k].length = 0;
+        for (usize at = 0; at < lent[k].size; at++) lent[k].memory[at] = guard(at);
+    }
 }
 
-static u8 *lend(struct lent *lent, const u8 *bytes, usize length, u8 placement) {
-    if (length > lent->size) _exit(4);
-    for (usize at = lent->start; at < lent->start + lent->length; at++) lent->memory[at] = guard(at);
-    usize last = lent->size - length;
-    lent->start = placement == 255 || placement > last ? last : placement;
-    lent->length = length;
-    memcpy(lent->memory + lent->start, bytes, length);
-    return lent->memory + lent->start;
+static void lend(struct lent *to, const u8 *bytes, usize length, u8 placement) {
+    if (length > to->size) _exit(4);
+    for (usize at = to->start; at < to->start + to->length; at++) to->memory[at] = guard(at);
+    usize last = to->size - length;
+    to->start = placement == 255 || placement > last ? last : placement;
+    to->length = length;
+    memcpy(to->memory + to->start, bytes, length);
 }
+
+static u8 *bytes_of(int k) { return lent[k].memory + lent[k].start; }
 
 /* Whether so many guard bytes on each side are as they were. */
-static int guarded(const struct lent *lent, usize far) {
-    usize end = lent->start + lent->length;
-    usize from = lent->start > far ? lent->start - far : 0;
-    usize to = lent->size - end > far ? end + far : lent->size;
-    for (usize at = from; at < lent->start; at++)
-        if (lent->memory[at] != guard(at)) return 0;
+static int guarded(const struct lent *one, usize far) {
+    usize end = one->start + one->length;
+    usize from = one->start > far ? one->start - far : 0;
+    usize to = one->size - end > far ? end + far : one->size;
+    for (usize at = from; at < one->start; at++)
+        if (one->memory[at] != guard(at)) return 0;
     for (usize at = end; at < to; at++)
-        if (lent->memory[at] != guard(at)) return 0;
+        if (one->memory[at] != guard(at)) return 0;
     return 1;
 }
 
@@ -104,59 +104,68 @@ static void write_all(const u8 *from, usize length) {
     }
 }
 
-static u64 call(u8 kind, const u32 *x, const u8 *first, usize n1, const u8 *second, usize n2,
-                u8 *lent, usize n3) {
+/* A slice crosses as pointer and length. */
+#define SLICE(k) bytes_of(k), lent[k].length
+
+static u64 call(u8 kind, const u32 *x) {
     switch (kind) {
-    case 0: return folvkin_plan(x[0], x[1]);
-    case 1: return folvkin_situation(x[0], x[1], first, n1);
-    case 2: return folvkin_event(x[0], x[1], lent, n3, x[2], x[3]);
-    case 3: return folvkin_aspects(x[0], x[1], first, n1, lent, n3);
-    case 4: return folvkin_reading(x[0], x[1], first, n1, x[2], x[3]);
-    case 5: return folvkin_question(first, n1);
-    case 6: return folvkin_key(first, n1, second, n2, lent, n3);
-    case 7: return folvkin_run(first, n1, second, n2);
-    case 8: return folvkin_mark(x[0], x[1], x[2], x[3], x[4], x[5], lent, n3);
+    case 0: return folvkin_plan(SLICE(0));
+    case 1: return folvkin_situation(SLICE(0), SLICE(1));
+    case 2: return folvkin_event(SLICE(0), SLICE(1), SLICE(2), SLICE(ROOM));
+    case 3: return folvkin_aspects(SLICE(0), SLICE(1), SLICE(ROOM));
+    case 4: return folvkin_reading(SLICE(0), SLICE(1), SLICE(2));
+    case 5: return folvkin_question(SLICE(0));
+    case 6: return folvkin_key(SLICE(0), SLICE(1), SLICE(ROOM));
+    case 7: return folvkin_run(SLICE(0), SLICE(1));
+    case 8: return folvkin_mark(x[0], x[1], x[2], x[3], x[4], x[5], SLICE(ROOM));
     }
     _exit(6);
     return 0;
 }
 
+/* What was touched that should not be, after a call on slices that held these
+ * bytes. */
+static u32 faults_after(const u8 *const *bytes, usize far) {
+    u32 faults = 0;
+    for (int k = 0; k < SLICES; k++) {
+        if (!guarded(&lent[k], far)) faults |= GUARDS_CHANGED;
+        if (k != ROOM && memcmp(bytes_of(k), bytes[k], lent[k].length) != 0) faults |= READ_CHANGED;
+    }
+    return faults;
+}
+
+/* Runs the case at *in and writes its reply to *out; both move on. */
+static void run_case(const u8 **in, const u8 *end, u8 **out) {
+    u32 x[NUMBERS], n[SLICES];
+    const u8 *head = *in, *bytes[SLICES];
+    memcpy(x, head + 1 + SLICES, sizeof x);
+    memcpy(n, head + 1 + SLICES + sizeof x, sizeof n);
+    *in += 1 + SLICES + sizeof x + sizeof n;
+    for (int k = 0; k < SLICES; k++) {
+        bytes[k] = *in;
+        *in += n[k];
+        lend(&lent[k], bytes[k], n[k], head[1 + k]);
+    }
+    u64 returned = call(head[0], x);
+    /* All guards at the last case of a batch. */
+    u32 faults = faults_after(bytes, *in < end ? LOOKED_AT : LARGE);
+    memcpy(*out, &returned, 8);
+    memcpy(*out + 8, &faults, 4);
+    memcpy(*out + 12, &n[ROOM], 4);
+    memcpy(*out + 16, bytes_of(ROOM), n[ROOM]);
+    *out += 16 + n[ROOM];
+    if (faults & GUARDS_CHANGED) make_all();
+}
+
 int main(void) {
-    struct lent first, second, lent;
     u8 *batch = pages(BATCH), *reply = pages(BATCH);
     u32 length;
-    make(&first, SMALL);
-    make(&second, SMALL);
-    make(&lent, LARGE);
+    make_all();
     while (read_all((u8 *)&length, 4)) {
-        u8 *in = batch, *out = reply + 4;
         if (length > BATCH || !read_all(batch, length)) return 7;
-        while (in < batch + length) {
-            u32 x[6], n[3], faults = 0;
-            const u8 *head = in;
-            memcpy(x, in + 4, sizeof x);
-            memcpy(n, in + 28, sizeof n);
-            const u8 *bytes1 = in + 40, *bytes2 = bytes1 + n[0], *bytes3 = bytes2 + n[1];
-            in += 40 + (usize)n[0] + n[1] + n[2];
-            const u8 *p1 = lend(&first, bytes1, n[0], head[1]);
-            const u8 *p2 = lend(&second, bytes2, n[1], head[2]);
-            u8 *p3 = lend(&lent, bytes3, n[2], head[3]);
-            u64 returned = call(head[0], x, p1, n[0], p2, n[1], p3, n[2]);
-            /* All of them at the last case of a batch. */
-            usize far = in < batch + length ? LOOKED_AT : LARGE;
-            if (!guarded(&first, far) || !guarded(&second, far) || !guarded(&lent, far)) faults |= 1;
-            if (memcmp(p1, bytes1, n[0]) != 0 || memcmp(p2, bytes2, n[1]) != 0) faults |= 2;
-            memcpy(out, &returned, 8);
-            memcpy(out + 8, &faults, 4);
-            memcpy(out + 12, &n[2], 4);
-            memcpy(out + 16, p3, n[2]);
-            out += 16 + n[2];
-            if (faults & 1) {
-                make(&first, SMALL);
-                make(&second, SMALL);
-                make(&lent, LARGE);
-            }
-        }
+        const u8 *in = batch;
+        u8 *out = reply + 4;
+        while (in < batch + length) run_case(&in, batch + length, &out);
         u32 written = out - (reply + 4);
         memcpy(reply, &written, 4);
         write_all(reply, 4 + (usize)written);

@@ -7,7 +7,6 @@ use std::io::{self, Read, Write};
 use std::process::{Child, ChildStdin, ChildStdout, Command, Stdio};
 
 use crate::cases::{Case, Outcome};
-use crate::interface::Interface;
 use crate::lent::Placed;
 
 pub struct Bridge {
@@ -36,14 +35,16 @@ impl Bridge {
         Ok(Bridge { _child: child, input, output, batch: vec![0; 4], cases: 0 })
     }
 
-    pub fn push(&mut self, case: &Case, placed: [Placed; 3]) {
+    /// The slices that a case reads are placed first, then its room.
+    pub fn push(&mut self, case: &Case, placed: [Placed; 4]) {
         self.batch.push(case.kind as u8);
         self.batch.extend(placed.map(|placed| match placed {
             Placed::AtStart => 0,
             Placed::AtEnd => 255,
             Placed::From(start) => start.clamp(1, 254) as u8,
         }));
-        let slices = [case.first, case.second, case.lent];
+        let [first, second, third] = case.read;
+        let slices = [first, second, third, case.room];
         for number in case.numbers.into_iter().chain(slices.map(|slice| slice.len() as u32)) {
             self.batch.extend(number.to_le_bytes());
         }
@@ -72,13 +73,13 @@ impl Bridge {
         let mut outcomes = Vec::with_capacity(self.cases);
         while let Some((head, after)) = rest.split_first_chunk::<16>() {
             let word = |at: usize| u32::from_le_bytes([head[at], head[at + 1], head[at + 2], head[at + 3]]);
-            let (lent, after) = after.split_at(word(12) as usize);
+            let (room, after) = after.split_at(word(12) as usize);
             rest = after;
             outcomes.push(Outcome {
                 returned: u64::from(word(0)) | u64::from(word(4)) << 32,
                 guarded: word(8) & 1 == 0,
                 read_only: word(8) & 2 == 0,
-                lent: lent.to_vec(),
+                room: room.to_vec(),
             });
         }
         assert_eq!(outcomes.len(), self.cases, "one outcome for each case");
@@ -87,67 +88,16 @@ impl Bridge {
     }
 }
 
-/// The library, one call at a time.
-pub struct Library;
-
 thread_local! {
     static BRIDGE: RefCell<Bridge> = RefCell::new(Bridge::start().expect("the bridge starts"));
 }
 
-fn call(case: Case, lent: &mut [u8]) -> u64 {
+/// The library's answer to a case, one call at a time.
+pub fn library(case: &Case, room: &mut [u8]) -> u64 {
     BRIDGE.with_borrow_mut(|bridge| {
-        bridge.push(&case, [Placed::AtEnd; 3]);
+        bridge.push(case, [Placed::AtEnd; 4]);
         let outcomes = bridge.flush().expect("the bridge answers");
-        lent.copy_from_slice(&outcomes[0].lent);
+        room.copy_from_slice(&outcomes[0].room);
         outcomes[0].returned
     })
-}
-
-impl Interface for Library {
-    const NAME: &'static str = "library";
-
-    fn plan(n: u8, b: u8) -> u8 {
-        call(Case::plan(n, b), &mut []) as u8
-    }
-
-    fn situation(n: u8, b: u8, si: &[u8]) -> u8 {
-        call(Case::sound(n, b, si), &mut []) as u8
-    }
-
-    fn event(n: u8, b: u8, si: &mut [u8], code: u8, argument: u8) -> u8 {
-        call(Case::event(n, b, &si.to_vec(), code, argument), si) as u8
-    }
-
-    fn aspects(n: u8, b: u8, si: &[u8], room: &mut [u8]) -> u8 {
-        call(Case::aspects(n, b, si, &room.to_vec()), room) as u8
-    }
-
-    fn reading(n: u8, b: u8, si: &[u8], kind: u8, argument: u8) -> u32 {
-        call(Case::reading(n, b, si, kind, argument), &mut []) as u32
-    }
-
-    fn question(bytes: &[u8]) -> u8 {
-        call(Case::question(bytes), &mut []) as u8
-    }
-
-    fn key(bytes: &[u8], after: &[u8], room: &mut [u8]) -> u64 {
-        call(Case::key(bytes, after, &room.to_vec()), room)
-    }
-
-    fn run(bytes: &[u8], slot: &[u8]) -> u32 {
-        call(Case::run(bytes, slot), &mut []) as u32
-    }
-
-    fn mark(
-        kind: u8,
-        amount: u32,
-        speed: u32,
-        tolerance: u32,
-        unit: u8,
-        pattern: u32,
-        room: &mut [u8],
-    ) -> u8 {
-        let numbers = [kind.into(), amount, speed, tolerance, unit.into(), pattern];
-        call(Case::number(numbers, &room.to_vec()), room) as u8
-    }
 }

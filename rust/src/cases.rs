@@ -1,172 +1,158 @@
 //! Cases and answers in the form of the vectors files: one case a line, its
-//! answer after a tab. Two additions, so that every call can be written down:
-//! `aspects` and `number` may end with the length of the lent room, and any
-//! bytes may be of any length (`-` for none).
+//! answer after a tab. A case is its word, then its numbers in decimal, the
+//! bytes that it reads in hex (`-` for none) and the length of its room.
 
 use std::fmt::{self, Write};
 
-use crate::interface::Interface;
+use crate::interface::{Interface, Plain};
 use crate::plain::key::{SLOT, START};
 use crate::plain::keytext::{refused_text, slots_text};
 use crate::plain::marking::LINE_LENGTH;
+use crate::{told, with_the_calls};
 
-#[derive(Clone, Copy, Debug, PartialEq, Eq)]
-pub enum Kind {
-    Plan,
-    Sound,
-    Event,
-    Aspects,
-    Reading,
-    Question,
-    Key,
-    Run,
-    Number,
-}
+/// The most numbers that a call has.
+pub const NUMBERS: usize = 6;
 
-impl Kind {
-    pub const ALL: [Kind; 9] = [
-        Kind::Plan,
-        Kind::Sound,
-        Kind::Event,
-        Kind::Aspects,
-        Kind::Reading,
-        Kind::Question,
-        Kind::Key,
-        Kind::Run,
-        Kind::Number,
-    ];
+/// The most slices that a call reads.
+pub const READ: usize = 3;
 
-    pub fn name(self) -> &'static str {
-        match self {
-            Kind::Plan => "plan",
-            Kind::Sound => "sound",
-            Kind::Event => "event",
-            Kind::Aspects => "aspects",
-            Kind::Reading => "reading",
-            Kind::Question => "question",
-            Kind::Key => "key",
-            Kind::Run => "run",
-            Kind::Number => "number",
-        }
-    }
-}
-
-/// The input of one call. `numbers` are the call's numbers in order; `first`
-/// and `second` the bytes that it reads; `lent` what the memory holds that it
-/// may write to (the situation of an event, else the room).
+/// The input of one call: its numbers in order, the bytes that it reads, and
+/// what the room holds that it may write to. What a call has not is zero or
+/// empty.
 #[derive(Clone, Copy, Debug)]
 pub struct Case<'a> {
     pub kind: Kind,
-    pub numbers: [u32; 6],
-    pub first: &'a [u8],
-    pub second: &'a [u8],
-    pub lent: &'a [u8],
+    pub numbers: [u32; NUMBERS],
+    pub read: [&'a [u8]; READ],
+    pub room: &'a [u8],
 }
 
 /// What came of a call: what it returned, whether the guards around all lent
-/// memory and the bytes lent for reading are as they were, and the memory that
-/// it may write to.
+/// memory and the bytes lent for reading are as they were, and the room.
 pub struct Outcome {
     pub returned: u64,
     pub guarded: bool,
     pub read_only: bool,
-    pub lent: Vec<u8>,
+    pub room: Vec<u8>,
 }
 
-impl<'a> Case<'a> {
-    pub fn plan(n: u8, b: u8) -> Case<'a> {
-        Case { kind: Kind::Plan, numbers: numbers(&[n, b]), first: &[], second: &[], lent: &[] }
-    }
+/// What a call takes.
+pub struct Shape {
+    /// What its cases begin with.
+    pub word: &'static str,
+    /// The greatest value of each of its numbers.
+    pub numbers: &'static [u32],
+    /// The slices that it reads.
+    pub reads: &'static [&'static str],
+    /// The room that it writes to, if there is one.
+    pub room: Option<&'static str>,
+}
 
-    pub fn sound(n: u8, b: u8, si: &'a [u8]) -> Case<'a> {
-        Case { kind: Kind::Sound, numbers: numbers(&[n, b]), first: si, second: &[], lent: &[] }
-    }
+/// The first `N` of what is given, with nothing after its end.
+fn filled<T: Copy + Default, const N: usize>(given: &[T]) -> [T; N] {
+    std::array::from_fn(|at| given.get(at).copied().unwrap_or_default())
+}
 
-    pub fn event(n: u8, b: u8, si: &'a [u8], code: u8, argument: u8) -> Case<'a> {
-        Case {
-            kind: Kind::Event,
-            numbers: numbers(&[n, b, code, argument]),
-            first: &[],
-            second: &[],
-            lent: si,
+macro_rules! as_cases {
+    ($(
+        $(#[$says:meta])*
+        $kind:ident $name:ident $word:literal $symbol:ident
+            ($($number:ident: $type:ty),*)
+            ($($read:ident $read_length:ident),*)
+            ($($room:ident $room_length:ident)?) -> $returned:ty;
+    )*) => {
+        #[derive(Clone, Copy, Debug, PartialEq, Eq)]
+        pub enum Kind {
+            $($kind),*
         }
-    }
 
-    pub fn aspects(n: u8, b: u8, si: &'a [u8], room: &'a [u8]) -> Case<'a> {
-        Case { kind: Kind::Aspects, numbers: numbers(&[n, b]), first: si, second: &[], lent: room }
-    }
+        impl Kind {
+            pub const ALL: &[Kind] = &[$(Kind::$kind),*];
 
-    pub fn reading(n: u8, b: u8, si: &'a [u8], kind: u8, argument: u8) -> Case<'a> {
-        Case {
-            kind: Kind::Reading,
-            numbers: numbers(&[n, b, kind, argument]),
-            first: si,
-            second: &[],
-            lent: &[],
-        }
-    }
-
-    pub fn question(bytes: &'a [u8]) -> Case<'a> {
-        Case { kind: Kind::Question, numbers: [0; 6], first: bytes, second: &[], lent: &[] }
-    }
-
-    pub fn key(bytes: &'a [u8], after: &'a [u8], room: &'a [u8]) -> Case<'a> {
-        Case { kind: Kind::Key, numbers: [0; 6], first: bytes, second: after, lent: room }
-    }
-
-    pub fn run(bytes: &'a [u8], slot: &'a [u8]) -> Case<'a> {
-        Case { kind: Kind::Run, numbers: [0; 6], first: bytes, second: slot, lent: &[] }
-    }
-
-    /// Kind, amount, speed, tolerance, unit, pattern.
-    pub fn number(numbers: [u32; 6], room: &'a [u8]) -> Case<'a> {
-        Case { kind: Kind::Number, numbers, first: &[], second: &[], lent: room }
-    }
-
-    /// Makes the call on the memory given, which holds what the case says.
-    #[inline]
-    pub fn call<I: Interface>(&self, first: &[u8], second: &[u8], lent: &mut [u8]) -> u64 {
-        let [x, y, z, t, u, p] = self.numbers;
-        match self.kind {
-            Kind::Plan => I::plan(x as u8, y as u8).into(),
-            Kind::Sound => I::situation(x as u8, y as u8, first).into(),
-            Kind::Event => I::event(x as u8, y as u8, lent, z as u8, t as u8).into(),
-            Kind::Aspects => I::aspects(x as u8, y as u8, first, lent).into(),
-            Kind::Reading => I::reading(x as u8, y as u8, first, z as u8, t as u8).into(),
-            Kind::Question => I::question(first).into(),
-            Kind::Key => I::key(first, second, lent),
-            Kind::Run => I::run(first, second).into(),
-            Kind::Number => I::mark(x as u8, y, z, t, u as u8, p, lent).into(),
-        }
-    }
-
-    /// The answer as text, from what the call returned and the memory after.
-    pub fn answer(&self, returned: u64, lent: &[u8]) -> String {
-        let refusal = returned & 255;
-        match self.kind {
-            Kind::Plan | Kind::Sound | Kind::Question => format!("{returned}"),
-            Kind::Event => format!("{returned} {}", hex(lent)),
-            Kind::Aspects => {
-                let mut text = format!("{returned}");
-                if returned == 0 {
-                    for aspect in lent.iter().take(2 * self.numbers[0] as usize) {
-                        let _ = write!(text, " {aspect}");
-                    }
+            pub fn shape(self) -> Shape {
+                match self {
+                    $(Kind::$kind => Shape {
+                        word: $word,
+                        numbers: &[$(<$type>::MAX as u32),*],
+                        reads: &[$(stringify!($read)),*],
+                        room: None$(.or(Some(stringify!($room))))?,
+                    },)*
                 }
-                text
             }
-            Kind::Reading => format!("{refusal} {}", returned >> 8),
+        }
+
+        #[allow(clippy::too_many_arguments)]
+        impl<'a> Case<'a> {
+            $(pub fn $name($($number: $type,)* $($read: &'a [u8],)* $($room: &'a [u8])?) -> Case<'a> {
+                let [room] = filled(&[$($room)?]);
+                Case {
+                    kind: Kind::$kind,
+                    numbers: filled(&[$($number.into()),*]),
+                    read: filled(&[$($read),*]),
+                    room,
+                }
+            })*
+
+            /// Makes the call on the memory given, which holds what the case
+            /// says.
+            #[inline]
+            pub fn call<I: Interface>(&self, read: [&[u8]; READ], room: &mut [u8]) -> u64 {
+                match self.kind {
+                    $(Kind::$kind => {
+                        let [$($number,)* ..] = self.numbers;
+                        let [$($read,)* ..] = read;
+                        $(let $room = room;)?
+                        I::$name($($number as $type,)* $($read,)* $($room)?).into()
+                    })*
+                }
+            }
+        }
+    };
+}
+
+with_the_calls!(as_cases);
+
+impl Case<'_> {
+    /// How many bytes of its room the call has written, from what it returned.
+    pub fn written(&self, returned: u64) -> usize {
+        let if_accepted = |length: usize| if returned == 0 { length } else { 0 };
+        let written = match self.kind {
+            Kind::Event => told::Event::from(returned).length,
+            Kind::Aspects => if_accepted(2 * self.sections()),
+            Kind::Key => told::Key::from(returned).count.saturating_mul(SLOT),
+            Kind::Mark => if_accepted(LINE_LENGTH),
+            _ => 0,
+        };
+        written.min(self.room.len())
+    }
+
+    /// n, as it stands in the record of the plan.
+    fn sections(&self) -> usize {
+        self.read[0].get(2).map_or(0, |&n| n.into())
+    }
+
+    /// The answer as text, from what the call returned and the room after.
+    pub fn answer(&self, returned: u64, room: &[u8]) -> String {
+        let bytes = Hex(&room[..self.written(returned)]);
+        match self.kind {
+            Kind::Plan | Kind::Situation | Kind::Question => format!("{returned}"),
+            Kind::Event => {
+                let told = told::Event::from(returned);
+                format!("{} {} {bytes}", told.refusal, told.name)
+            }
+            Kind::Aspects | Kind::Mark => format!("{returned} {bytes}"),
+            Kind::Reading => {
+                let told = told::Reading::from(returned as u32);
+                format!("{} {}", told.refusal, told.value)
+            }
             Kind::Key => {
-                let count = returned >> 16;
-                let written = (count as usize).saturating_mul(SLOT).min(lent.len());
-                format!("{refusal} {count} {} {}", returned >> 8 & 255, hex(&lent[..written]))
+                let told = told::Key::from(returned);
+                format!("{} {} {} {bytes}", told.refusal, told.count, told.more)
             }
             Kind::Run => {
-                format!("{refusal} {} {} {}", returned >> 8 & 255, returned >> 16 & 255, returned >> 24)
-            }
-            Kind::Number => {
-                let line: &[u8] = if returned == 0 { &lent[..LINE_LENGTH.min(lent.len())] } else { &[] };
-                format!("{returned} {}", hex(line))
+                let told = told::Run::from(returned);
+                let told::Run { refusal, place, event_refusal, holds, name } = told;
+                format!("{refusal} {place} {event_refusal} {name} {holds}")
             }
         }
     }
@@ -174,30 +160,63 @@ impl<'a> Case<'a> {
 
 impl fmt::Display for Case<'_> {
     fn fmt(&self, f: &mut fmt::Formatter) -> fmt::Result {
-        let [x, y, z, t, u, p] = self.numbers;
-        let kind = self.kind.name();
-        let (first, second, lent) = (Hex(self.first), Hex(self.second), Hex(self.lent));
-        let room = self.lent.len();
-        match self.kind {
-            Kind::Plan => write!(f, "{kind} {x} {y}"),
-            Kind::Sound => write!(f, "{kind} {x} {y} {first}"),
-            Kind::Event => write!(f, "{kind} {x} {y} {lent} {z} {t}"),
-            Kind::Aspects => write!(f, "{kind} {x} {y} {first} {room}"),
-            Kind::Reading => write!(f, "{kind} {x} {y} {first} {z} {t}"),
-            Kind::Question => write!(f, "{kind} {first}"),
-            Kind::Key => write!(f, "{kind} {first} {second} {room}"),
-            Kind::Run => write!(f, "{kind} {first} {second}"),
-            Kind::Number => write!(f, "{kind} {x} {y} {z} {t} {u} {p} {room}"),
+        let shape = self.kind.shape();
+        f.write_str(shape.word)?;
+        for number in &self.numbers[..shape.numbers.len()] {
+            write!(f, " {number}")?;
         }
+        for bytes in &self.read[..shape.reads.len()] {
+            write!(f, " {}", Hex(bytes))?;
+        }
+        if shape.room.is_some() {
+            write!(f, " {}", self.room.len())?;
+        }
+        Ok(())
     }
 }
 
-fn numbers(bytes: &[u8]) -> [u32; 6] {
-    let mut numbers = [0; 6];
-    for (number, &byte) in numbers.iter_mut().zip(bytes) {
-        *number = byte.into();
+/// A case that has its bytes.
+pub struct Kept {
+    kind: Kind,
+    numbers: [u32; NUMBERS],
+    read: [Vec<u8>; READ],
+    room: Vec<u8>,
+}
+
+/// What the rooms of cases read from text hold before the call.
+const BEFORE: u8 = 0xa5;
+
+impl Kept {
+    pub fn new(case: &Case) -> Kept {
+        let Case { kind, numbers, read, room } = *case;
+        Kept { kind, numbers, read: read.map(<[u8]>::to_vec), room: room.to_vec() }
     }
-    numbers
+
+    pub fn case(&self) -> Case<'_> {
+        let [first, second, third] = &self.read;
+        Case { kind: self.kind, numbers: self.numbers, read: [first, second, third], room: &self.room }
+    }
+
+    /// The case that stands in a text; none if it is no case.
+    pub fn from_text(text: &str) -> Option<Kept> {
+        let mut words = text.split(' ');
+        let word = words.next()?;
+        let kind = *Kind::ALL.iter().find(|kind| kind.shape().word == word)?;
+        let shape = kind.shape();
+        let mut numbers = [0; NUMBERS];
+        for (number, &most) in numbers.iter_mut().zip(shape.numbers) {
+            *number = words.next()?.parse().ok().filter(|&number| number <= most)?;
+        }
+        let mut read = [const { Vec::new() }; READ];
+        for bytes in &mut read[..shape.reads.len()] {
+            *bytes = from_hex(words.next()?)?;
+        }
+        let room = match shape.room {
+            Some(_) => vec![BEFORE; words.next()?.parse().ok()?],
+            None => Vec::new(),
+        };
+        words.next().is_none().then_some(Kept { kind, numbers, read, room })
+    }
 }
 
 /// Bytes shown in hex, `-` for none.
@@ -227,59 +246,45 @@ pub fn from_hex(text: &str) -> Option<Vec<u8>> {
     (0..text.len()).step_by(2).map(|at| u8::from_str_radix(&text[at..at + 2], 16).ok()).collect()
 }
 
-/// The answer of an implementation to a case written as text; none if the
-/// text is no case.
-pub fn answer_to<I: Interface>(text: &str) -> Option<String> {
-    let words: Vec<&str> = text.split(' ').collect();
-    let (&name, words) = words.split_first()?;
-    let byte = |at: usize| words.get(at)?.parse::<u8>().ok();
-    let word = |at: usize| words.get(at)?.parse::<u32>().ok();
-    let bytes = |at: usize| from_hex(words.get(at)?);
-    // The room at the end of a case, or as much as the answer needs.
-    let room = |at: usize, needed: usize| match words.get(at) {
-        Some(word) => word.parse::<usize>().ok(),
-        None => Some(needed),
-    };
-    let answer = |case: Case| {
-        let mut lent = case.lent.to_vec();
-        let returned = case.call::<I>(case.first, case.second, &mut lent);
-        case.answer(returned, &lent)
-    };
-    match name {
-        "plan" => Some(answer(Case::plan(byte(0)?, byte(1)?))),
-        "sound" => Some(answer(Case::sound(byte(0)?, byte(1)?, &bytes(2)?))),
-        "event" => Some(answer(Case::event(byte(0)?, byte(1)?, &bytes(2)?, byte(3)?, byte(4)?))),
-        "aspects" => {
-            let room = vec![0; room(3, 2 * usize::from(byte(0)?))?];
-            Some(answer(Case::aspects(byte(0)?, byte(1)?, &bytes(2)?, &room)))
-        }
-        "reading" => Some(answer(Case::reading(byte(0)?, byte(1)?, &bytes(2)?, byte(3)?, byte(4)?))),
-        "question" => Some(answer(Case::question(&bytes(0)?))),
-        "key" => Some(answer(Case::key(&bytes(0)?, &bytes(1)?, &vec![0; room(2, 0)?]))),
-        "run" => Some(answer(Case::run(&bytes(0)?, &bytes(1)?))),
-        "number" => {
-            let numbers = [byte(0)?.into(), word(1)?, word(2)?, word(3)?, byte(4)?.into(), word(5)?];
-            let room = vec![0; room(6, LINE_LENGTH)?];
-            Some(answer(Case::number(numbers, &room)))
-        }
-        "keytext" => Some(key_text::<I>(&bytes(0)?).replace('\n', "|")),
-        _ => None,
+/// Makes a case's call on a room that holds what the case says: what it
+/// returned.
+pub type Caller = fn(&Case, &mut [u8]) -> u64;
+
+/// The plain implementation's answer to a case.
+pub fn plain(case: &Case, room: &mut [u8]) -> u64 {
+    case.call::<Plain>(case.read, room)
+}
+
+/// The answer to a case written as text; none if the text is no case.
+pub fn answer_to(text: &str, caller: Caller) -> Option<String> {
+    if let Some(question) = text.strip_prefix("keytext ") {
+        return Some(key_text(&from_hex(question)?, caller).replace('\n', "|"));
     }
+    let kept = Kept::from_text(text)?;
+    let case = kept.case();
+    let mut room = case.room.to_vec();
+    let returned = caller(&case, &mut room);
+    let mut answer = case.answer(returned, &room);
+    if room[case.written(returned)..].iter().any(|&byte| byte != BEFORE) {
+        answer.push_str(" (bytes past what was written are changed)");
+    }
+    Some(answer)
 }
 
 /// What the key program prints, by calls to the key that go on after the last
 /// slot of the call before.
-pub fn key_text<I: Interface>(bytes: &[u8]) -> String {
+pub fn key_text(question: &[u8], caller: Caller) -> String {
     let mut room = [0; 97 * SLOT];
     let mut slots = Vec::new();
     let mut after = START;
     loop {
-        let returned = I::key(bytes, &after, &mut room);
-        if returned & 255 != 0 {
-            return refused_text(returned as u8);
+        let before = room;
+        let told = told::Key::from(caller(&Case::key(question, &after, &before), &mut room));
+        if told.refusal != 0 {
+            return refused_text(told.refusal);
         }
-        slots.extend_from_slice(&room[..(returned >> 16) as usize * SLOT]);
-        if returned >> 8 & 255 == 0 {
+        slots.extend_from_slice(&room[..told.count * SLOT]);
+        if told.more == 0 {
             return slots_text(&slots);
         }
         after.copy_from_slice(&slots[slots.len() - SLOT..]);

@@ -3,7 +3,7 @@
 
 use crate::plain::key::{SLOT, START};
 use crate::plain::situation::{IN, LENGTH, NONE, OUT};
-use crate::plain::{Event, Line, Parts, Question, Reading, Situation, events, readings};
+use crate::plain::{Event, Line, Parts, Question, Reading, Situation, events, readings, records};
 use crate::random::Random;
 
 /// A plan, with the least and greatest ones more often.
@@ -98,8 +98,9 @@ pub fn sound_or_reached(r: &mut Random, line: &Line) -> Situation {
     if r.once_in(2) { sound(r, line) } else { reached(r, line) }
 }
 
-/// A situation's bytes: sound, in range, changed in some bytes, any bytes.
-pub fn situation_bytes(r: &mut Random, line: &Line) -> [u8; LENGTH] {
+/// The 19 bytes of a situation: sound, in range, changed in some bytes, any
+/// bytes.
+pub fn situation_body(r: &mut Random, line: &Line) -> [u8; LENGTH] {
     match r.below(8) {
         0..3 => sound_or_reached(r, line).to_bytes(),
         3 | 4 => in_range(r, line).to_bytes(),
@@ -178,23 +179,88 @@ pub fn event_bytes(r: &mut Random, line: &Line) -> [u8; 2] {
 }
 
 /// A reading's kind and argument, in range.
-fn reading(r: &mut Random, line: &Line) -> (u8, u8) {
+pub fn reading(r: &mut Random, line: &Line) -> [u8; 2] {
     match r.below(5) {
-        0 | 1 => (readings::ASPECT, signal(r, line)),
-        2 => (readings::LINE, 0),
-        _ => (r.from(2, 4) as u8, r.below(2) as u8),
+        0 | 1 => [readings::ASPECT, signal(r, line)],
+        2 => [readings::LINE, 0],
+        _ => [r.from(2, 4) as u8, r.below(2) as u8],
     }
 }
 
 /// The kind and argument of a reading, in range or not.
-pub fn reading_bytes(r: &mut Random, line: &Line) -> (u8, u8) {
-    let (kind, argument) = reading(r, line);
+pub fn reading_bytes(r: &mut Random, line: &Line) -> [u8; 2] {
+    let [kind, argument] = reading(r, line);
     match r.below(8) {
-        0 => (kind, changed_byte(r, argument)),
-        1 => (r.below(8) as u8, argument),
-        2 if r.once_in(2) => (r.byte(), r.byte()),
-        _ => (kind, argument),
+        0 => [kind, changed_byte(r, argument)],
+        1 => [r.below(8) as u8, argument],
+        2 if r.once_in(2) => [r.byte(), r.byte()],
+        _ => [kind, argument],
     }
+}
+
+/// Letters of records, here and elsewhere.
+const LETTERS: [[u8; 2]; 10] =
+    [*b"LB", *b"SI", *b"EV", *b"RD", *b"LN", *b"LC", *b"SJ", *b"SK", *b"lb", *b"si"];
+
+/// The bytes of a record, damaged: none, with other letters, cut short, with
+/// bytes left over, with a byte too many or too few within, twice.
+fn damaged_record(r: &mut Random, record: &[u8]) -> Vec<u8> {
+    let mut bytes = record.to_vec();
+    match r.below(9) {
+        0 => bytes.clear(),
+        1 => {
+            let at = r.index(2);
+            bytes[at] = changed_byte(r, bytes[at]);
+        }
+        2 => bytes[..2].copy_from_slice(&r.pick(&LETTERS)),
+        3 => bytes.swap(0, 1),
+        4 => bytes.truncate(r.index(record.len())),
+        5 => {
+            for _ in 0..r.from(1, 24) {
+                bytes.push(r.byte());
+            }
+        }
+        6 => bytes.insert(r.index(record.len()), r.byte()),
+        7 => {
+            bytes.remove(r.index(record.len()));
+        }
+        _ => bytes.extend_from_slice(record),
+    }
+    bytes
+}
+
+/// What is lent to a call as plan, and the line to choose the rest for: mostly
+/// the record of a plan, now and then with other numbers in it, damaged now
+/// and then.
+pub fn lent_plan(r: &mut Random) -> (Vec<u8>, Line) {
+    let line = line(r);
+    let (mut n, mut b) = (line.sections(), line.frontier());
+    match r.below(24) {
+        0 => n = changed_byte(r, n),
+        1 => b = changed_byte(r, b),
+        _ => {}
+    }
+    let record = records::plan_record(n, b);
+    let bytes = if r.once_in(20) { damaged_record(r, &record) } else { record.to_vec() };
+    (bytes, Line::new(n, b).unwrap_or(line))
+}
+
+/// What is lent to a call as situation: a record of any situation, damaged now
+/// and then.
+pub fn lent_situation(r: &mut Random, line: &Line) -> Vec<u8> {
+    let record = records::situation_record(&situation_body(r, line));
+    if r.once_in(20) { damaged_record(r, &record) } else { record.to_vec() }
+}
+
+/// What is lent to a call as event or as reading: two bytes, now and then
+/// fewer or more.
+pub fn lent_pair(r: &mut Random, pair: [u8; 2]) -> Vec<u8> {
+    let mut bytes = pair.to_vec();
+    if r.once_in(20) {
+        let filling = if r.once_in(2) { 0 } else { r.byte() };
+        bytes.resize(r.pick(&[0, 1, 1, 3, 3, 4, 6, 21]), filling);
+    }
+    bytes
 }
 
 /// How much of a search a question may ask for: the number of sequences that
@@ -222,9 +288,9 @@ pub fn question(r: &mut Random, search: Search) -> Question {
     }
     let mut listed: Vec<[u8; 2]> = Vec::with_capacity(count);
     while listed.len() < count {
-        let Event { code, argument } = event(r, &line);
-        if !listed.contains(&[code, argument]) {
-            listed.push([code, argument]);
+        let event = event(r, &line).to_bytes();
+        if !listed.contains(&event) {
+            listed.push(event);
         }
     }
     let mut there = start;
@@ -235,7 +301,7 @@ pub fn question(r: &mut Random, search: Search) -> Question {
     let reading_count = if r.once_in(3) { 0 } else { r.below(7) as usize };
     let mut asked = Vec::with_capacity(reading_count);
     for _ in 0..reading_count {
-        let (kind, argument) = reading(r, &line);
+        let [kind, argument] = reading(r, &line);
         let value = if r.once_in(12) {
             r.below(if kind == readings::LINE { 2 } else { 3 }) as u8
         } else {
@@ -265,9 +331,11 @@ pub fn question_bytes(question: &Question) -> Vec<u8> {
 
 /// Where each record of a question starts, and the end.
 fn records(question: &Question) -> [usize; 6] {
-    let events = 25 + 3 + 2 * question.events().len();
-    let readings = events + 3 + 3 * question.readings().len();
-    [0, 4, 25, events, readings, readings + 3]
+    let situation = records::PLAN;
+    let events = situation + records::SITUATION;
+    let readings = events + 3 + 2 * question.events().len();
+    let length = readings + 3 + 3 * question.readings().len();
+    [0, situation, events, readings, length, length + 3]
 }
 
 /// The bytes of a question, damaged in one or two of many ways.
@@ -332,11 +400,10 @@ pub fn damaged(r: &mut Random, question: &Question) -> Vec<u8> {
         10 => {
             let line = line(r);
             if r.once_in(2) {
-                bytes[2] = line.sections();
-                bytes[3] = line.frontier();
+                bytes[at[0]..at[1]].copy_from_slice(&line.to_record());
             }
             if r.once_in(2) {
-                bytes[6..25].copy_from_slice(&situation_bytes(r, &line));
+                bytes[at[1] + 2..at[2]].copy_from_slice(&situation_body(r, &line));
             }
             let place = at[2] + 3 + 2 * r.index(count);
             bytes[place..place + 2].copy_from_slice(&event_bytes(r, &line));
@@ -348,7 +415,7 @@ pub fn damaged(r: &mut Random, question: &Question) -> Vec<u8> {
             let readings = question.readings().len();
             if readings > 0 {
                 let place = at[3] + 3 + 3 * r.index(readings);
-                let (kind, argument) = reading_bytes(r, question.line());
+                let [kind, argument] = reading_bytes(r, question.line());
                 bytes[place..place + 3].copy_from_slice(&[kind, argument, r.below(5) as u8]);
             } else {
                 bytes[at[4] + 2] = r.byte();
@@ -537,6 +604,6 @@ fn typed_pattern(r: &mut Random, kind: u32, amount: u32, speed: u32, tolerance: 
 
 /// A reading of what a situation shows.
 pub fn shown(r: &mut Random, line: &Line, situation: &Situation) -> Reading {
-    let (kind, argument) = reading(r, line);
+    let [kind, argument] = reading(r, line);
     Reading { kind, argument, value: readings::value(line, situation, kind, argument) }
 }

@@ -36,10 +36,6 @@ impl Lent {
         Lent { memory, start: 0, length: 0 }
     }
 
-    pub fn most(&self) -> usize {
-        self.memory.len() - 4 * LOOKED_AT
-    }
-
     /// Lends a copy of the bytes. What was lent before becomes guard again.
     pub fn lend(&mut self, bytes: &[u8], placed: Placed) -> &mut [u8] {
         for at in self.start..self.start + self.length {

@@ -1,6 +1,7 @@
 //! Document 01 in plain Rust ([`plain`]), the proved library behind a safe
 //! wrapper (`ffi`, or `bridge` on a processor that the library is not compiled
-//! for), and what the programs of this package share: cases as text
+//! for), and what the programs of this package share: the calls
+//! ([`interface`]) and the numbers they return ([`told`]), cases as text
 //! ([`cases`]), generated cases ([`generate`]), lent memory with guards
 //! ([`lent`]).
 
@@ -14,8 +15,9 @@ pub mod interface;
 pub mod lent;
 pub mod plain;
 pub mod random;
+pub mod told;
 
 #[cfg(bridged)]
-pub use bridge::Library;
+pub use bridge::library;
 #[cfg(linked)]
-pub use ffi::Library;
+pub use ffi::{Library, library};

@@ -2,7 +2,6 @@
 //! implementation.
 
 use folvkin_compare::generate::{self, Search};
-use folvkin_compare::interface::{Interface, Plain};
 use folvkin_compare::plain::key::{SLOT, START, key};
 use folvkin_compare::plain::keytext::{key_text, whole_key};
 use folvkin_compare::plain::marking::{RIGHT, WRONG, mark};
@@ -326,17 +325,4 @@ impl Long {
             second
         }))
     }
-}
-
-/// Slices of other lengths get the refusals of the table.
-#[test]
-fn other_lengths() {
-    let si = Situation::FRESH.to_bytes();
-    assert_eq!(Plain::situation(4, 2, &si[..18]), 20);
-    assert_eq!(Plain::situation(0, 0, &[]), 20);
-    assert_eq!(Plain::event(4, 2, &mut [], 1, 0), 20);
-    assert_eq!(Plain::aspects(4, 2, &si, &mut [0; 7]), 24);
-    assert_eq!(Plain::mark(1, 1500, 100, 50, 1, 0, &mut [0; 12]), 24);
-    assert_eq!(Plain::mark(3, 1500, 100, 50, 1, 0, &mut [0; 12]), 23);
-    assert_eq!(Plain::question(&[]), 20);
 }

@@ -1,4 +1,4 @@
--- What is proved of every event of the block: each law as a statement; proofs/ has a file of the same name for each.
+-- What is proved of every event of the block: each law as a statement, proved under the same name in proofs/.
 use Prim.Native.Nat.{ℕ, _^_, _<_}
 use mathlib.Core.Bool.{Bool, true, false, not, Bool·beq}
 use mathlib.Core.List.{List, [], _∷_}

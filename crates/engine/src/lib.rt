@@ -1,7 +1,7 @@
 // A part of a key, written into lent room: exploring a situation tries its events, and trying them explores where each leads.
 ghost use mathlib.Core.Path.{_≡_};
 ghost use mathlib.Core.Bool.{true, false};
-ghost use Prim.Native.Nat.{_+_, _*_, _/_, _≤_, _<_};
+ghost use Prim.Native.Nat.{_+_, _*_, _≤_, _<_};
 ghost use lib.ListN.{length, getD};
 ghost use Rattle.keylaws.specs.Continuation.{isContinuation};
 ghost use Rattle.keylaws.specs.Parts.{handed, partAfter};
@@ -9,6 +9,7 @@ ghost use Rattle.keylaws.specs.Walk.{aims, starts};
 ghost use Rattle.situation.specs.Packed.{unpacked};
 ghost use Rattle.block.specs.Line.{isPlan};
 ghost use Rattle.block.specs.Apply.{reached};
+ghost use Rattle.records.specs.InBytes.{events-in, readings-in};
 ghost use Rattle.rules.specs.RulesOf.{rulesOf};
 ghost use Rattle.rules.specs.Judged.{all-right};
 ghost use Rattle.rules.specs.Wanted.{Asked};
@@ -17,7 +18,9 @@ use block::event::Event;
 use block::line::Plan;
 use events::next;
 use events::own_refusal;
-use rules::tries::event_at;
+use records::lists::EVENT;
+use records::lists::READING;
+use records::lists::event_at;
 use rules::wanted::Wanted;
 use rules::wanted::all_hold;
 use rules::wanted::wanted_of;
@@ -72,7 +75,7 @@ fn start_of(from: [u8; 6], depth: usize, on: bool) -> Start
 fn own_answer(ask: Ask, x: Situation, at: Node, readings: &[u8], room: &mut [u8]) -> Part
     requires { ⌜ 6 * at .count ≤ length (now room) ⌝ }
     requires { ⌜ Asked (ask .plan) (ask .wanted) (now readings) ⌝ }
-    ensures put { λ r. ⌜ handed (now (room .exit)) (r .count) (r .more) ≡ own (ask .plan) (now (readings .entry)) (unpacked x) at (now (room .entry)) ⌝ }
+    ensures put { λ r. ⌜ handed (now (room .exit)) (r .count) (r .more) ≡ own (ask .plan) (readings-in (now (readings .entry))) (unpacked x) at (now (room .entry)) ⌝ }
     ensures fits { λ r. ⌜ 6 * r .count ≤ length (now (room .exit)) ⌝ }
 {
     let count = at.count;
@@ -90,12 +93,12 @@ fn own_answer(ask: Ask, x: Situation, at: Node, readings: &[u8], room: &mut [u8]
 // situation that it leads to.
 fn ends_answer(x: Situation, on: bool, ask: Ask, event: Event, readings: &[u8]) -> bool
     requires { ⌜ Asked (ask .plan) (ask .wanted) (now readings) ⌝ }
-    ensures { λ r. ⌜ r ≡ ends on (ask .plan) (now (readings .entry)) (reached (ask .plan) (unpacked x) event) ⌝ }
+    ensures { λ r. ⌜ r ≡ ends on (ask .plan) (readings-in (now (readings .entry))) (reached (ask .plan) (unpacked x) event) ⌝ }
 {
     if on {
         return false;
     }
-    if readings.len() < 3 {
+    if readings.len() < READING {
         return true;
     }
     let after = next(ask.plan, x, event);
@@ -113,8 +116,8 @@ fn explore(
 ) -> Part
     requires { ⌜ 6 * at .count ≤ length (now room) ⌝ }
     requires { ⌜ (length (now events) ≤ 24) × (at .depth + at .left ≤ 5) ⌝ }
-    requires { ⌜ (all-right (ask .plan) (now events) ≡ true) × (Asked (ask .plan) (ask .wanted) (now readings)) ⌝ }
-    ensures put { λ r. ⌜ handed (now (room .exit)) (r .count) (r .more) ≡ explored ask (now (events .entry)) (now (readings .entry)) (unpacked x) at (now (room .entry)) ⌝ }
+    requires { ⌜ (all-right (ask .plan) (events-in (now events)) ≡ true) × (Asked (ask .plan) (ask .wanted) (now readings)) ⌝ }
+    ensures put { λ r. ⌜ handed (now (room .exit)) (r .count) (r .more) ≡ explored ask (events-in (now (events .entry))) (readings-in (now (readings .entry))) (unpacked x) at (now (room .entry)) ⌝ }
     ensures fits { λ r. ⌜ 6 * r .count ≤ length (now (room .exit)) ⌝ }
 {
     let own = own_answer(ask, x, at, readings, room);
@@ -143,11 +146,11 @@ fn attempt(
 ) -> Part
     requires { ⌜ 6 * at .count ≤ length (now room) ⌝ }
     requires { ⌜ (length (now events) ≤ 24) × (at .depth + at .left ≤ 5) × (1 ≤ at .left) ⌝ }
-    requires { ⌜ (all-right (ask .plan) (now events) ≡ true) × (Asked (ask .plan) (ask .wanted) (now readings)) ⌝ }
-    ensures put { λ r. ⌜ handed (now (room .exit)) (r .count) (r .more) ≡ attempted ask (now (events .entry)) (now (readings .entry)) (unpacked x) at (now (room .entry)) ⌝ }
+    requires { ⌜ (all-right (ask .plan) (events-in (now events)) ≡ true) × (Asked (ask .plan) (ask .wanted) (now readings)) ⌝ }
+    ensures put { λ r. ⌜ handed (now (room .exit)) (r .count) (r .more) ≡ attempted ask (events-in (now (events .entry))) (readings-in (now (readings .entry))) (unpacked x) at (now (room .entry)) ⌝ }
     ensures fits { λ r. ⌜ 6 * r .count ≤ length (now (room .exit)) ⌝ }
 {
-    let n = events.len() / 2;
+    let n = events.len() / EVENT;
     let slot = at.slot;
     let depth = at.depth;
     let left = at.left;
@@ -206,9 +209,9 @@ pub fn key_part(
     room: &mut [u8],
 ) -> Part
     requires { ⌜ (length (now events) ≤ 24) × (limit ≤ 5) ⌝ }
-    requires { ⌜ isContinuation (length (now events) / 2) limit from ≡ true ⌝ }
-    requires { ⌜ (all-right plan (now events) ≡ true) × (isPlan plan ≡ true) ⌝ }
-    ensures { λ r. ⌜ handed (now (room .exit)) (r .count) (r .more) ≡ partAfter (rulesOf plan (now (events .entry)) (now (readings .entry))) limit (unpacked start) from (now (room .entry)) ⌝ }
+    requires { ⌜ isContinuation (length (events-in (now events))) limit from ≡ true ⌝ }
+    requires { ⌜ (all-right plan (events-in (now events)) ≡ true) × (isPlan plan ≡ true) ⌝ }
+    ensures { λ r. ⌜ handed (now (room .exit)) (r .count) (r .more) ≡ partAfter (rulesOf plan (events-in (now (events .entry))) (readings-in (now (readings .entry)))) limit (unpacked start) from (now (room .entry)) ⌝ }
 {
     let root = Node {
         slot: [0u8; 6],

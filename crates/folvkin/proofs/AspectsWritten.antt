@@ -19,13 +19,14 @@ use Rattle.block.specs.declared.line.Plan.{Plan}
 use Rattle.block.specs.declared.line.Direction.{Direction}
 use Rattle.block.specs.declared.line.Direction.the-variants.{TowardsA, TowardsB}
 use Rattle.block.specs.Situation.{Kept}
-use Rattle.records.proofs.Forms.{part-from}
+use Rattle.records.proofs.InBytes.{part-from}
 use Rattle.signals.specs.Aspects.{code, shows, is-open, aspect}
 use Rattle.signals.specs.SignalSets.{those, is-green, shown}
 use Rattle.signals.specs.declared.lights.Lights.{Lights}
 use Rattle.signals.proofs.LitLaws.{Sized, sized}
 use Rattle.signals.proofs.TwoSignals.{shown-is}
-use Rattle.folvkin.specs.Block.{signal-at, first-shown, first-aspects}
+use Rattle.folvkin.specs.ShownInTurn.{first-shown}
+use Rattle.folvkin.specs.Block.{signal-at, first-aspects}
 
 -- ---- one direction
 module _ (l : Lights) where
@@ -118,6 +119,11 @@ module _ (p : Plan) (x : Kept) (plan : isPlan p ≡ true) where
   all-shown b a s t =
       let n : ℕ = p .sections in
       ap (λ (l : List ℕ). l ++ first-shown a n) (first-half b s n (omega arith)) ∙ second-half a t n (omega arith)
+
+pub all-long : (p : Plan) (x : Kept) (i : ℕ) → length (first-aspects p x i) ≡ i
+unfolding first-aspects
+all-long p x zero = refl
+all-long p x (suc i) = let h = all-long p x i in length-append (first-aspects p x i) (aspect p x (signal-at (p .sections) i) ∷ []) ∙ omega (arith, h)
 
 -- aspects are written, then others into the part after them
 pub onto : (b a : Lights) (n : ℕ) (room first part : List ℕ) → n + n ≤ length room → first ≡ written b room n → part ≡ written a (take (length first - n) (drop n first)) n

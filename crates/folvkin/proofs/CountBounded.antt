@@ -1,9 +1,9 @@
 -- A call gives at most 271,453 slots: the words of up to five of twelve places. Assumes nothing.
-use Prim.Native.Nat.{ℕ, _*_, _≤_}
+use Prim.Native.Nat.{ℕ, _≤_}
 use mathlib.Core.List.{List}
 use native.Mathlib.Omega.{arith}
 use lib.Dec.{T, eqb, leb, eqb→eq}
-use lib.ListN.{length, take, length-take}
+use lib.ListN.{length}
 use Rattle.words.proofs.Tests.{if-case}
 use Rattle.keylaws.specs.Continuation.{isContinuation}
 use Rattle.keylaws.specs.Parts.{partAfter}
@@ -18,16 +18,13 @@ abbrev Few : Fetch → Type 0
 Few f = f .part .count ≤ 271453
 
 module _ (q : Question) (b : Bounded q) (after room : List ℕ) where
-  at-most-twelve : rules q .events ≤ 12
-  at-most-twelve = let h : length (take (2 * q .events .count) (q .events .bytes)) ≤ 2 * q .events .count = simp length-take (omega arith) in omega (arith, b .0)
-
   part-few : Few (part-of q after room)
   unfolding part-of
   part-few =
       if-case Few (isContinuation (rules q .events) (q .length) after) _ (nothing 22 room)
       (λ t.
       if-case Few (leb 6 (length room)) (given (partAfter (rules q) (q .length) (q .situation) after room)) (nothing 24 room)
-      (λ u. few (rules q) (q .length) (q .situation) at-most-twelve (b .2) after room)
+      (λ u. few (rules q) (q .length) (q .situation) (b .0) (b .2) after room)
       (λ u. omega arith))
       (λ t. omega arith)
 

@@ -1,3 +1,6 @@
-pub mod Overwritten
 pub mod AspectsWritten
 pub mod CountBounded
+pub mod CallsTold
+pub mod RoomLeft
+pub mod FieldsReadBack
+pub mod LaidEndToEnd

@@ -1,47 +1,91 @@
--- The calls on a plan and a situation, which is the body of record SI: "19 bytes; another length is 20".
+-- The calls on a plan and a situation, each the records "exactly as they stand in a question". Refusals in the document's order: 20 where they are
+-- not, or event or reading have another length than two bytes; 1, 2; 3, 4; 21; 24; then the event's own.
 use Prim.Native.Nat.{ℕ, zero, suc, _+_, _-_, _*_}
-use mathlib.Core.Bool.{Bool}
 use mathlib.Core.List.{List, [], _∷_, _++_}
 use lib.Dec.{eqb, leb, ltb}
-use lib.ListN.{length, drop}
-use Rattle.words.specs.Words.{_and_, if_then_else_}
-use Rattle.block.specs.Judged.{judged}
+use lib.ListN.{length, getD}
+use Rattle.words.specs.Words.{if_then_else_}
+use Rattle.forms.specs.Form.{laid}
+use Rattle.forms.specs.Whole.{Whole, refused as no-form, accepted, whole}
+use Rattle.block.specs.Judged.{plan-judged, judged}
 use Rattle.block.specs.declared.line.Plan.{Plan}
+use Rattle.block.specs.declared.event.Event.{Event}
 use Rattle.block.specs.Situation.{Kept}
-use Rattle.block.specs.Apply.{event, applied}
+use Rattle.block.specs.Apply.{event, own-refusal, reached}
 use Rattle.signals.specs.Aspects.{aspect}
-use Rattle.signals.specs.SignalSets.{shown}
-use Rattle.signals.specs.declared.lights.Lights.{Lights}
-use Rattle.signals.specs.Readings.{reading}
+use Rattle.signals.specs.Readings.{reading, nothing-told}
 use Rattle.signals.specs.declared.readings.Told.{Told}
-use Rattle.records.specs.Situation.{situation-of, situation-bytes}
+use Rattle.records.specs.Plan.{plan}
+use Rattle.records.specs.Situation.{codes-of, situation}
+use Rattle.lists.specs.Refusal.{_unless_, _or-else_, event-refusal}
+use Rattle.paper.specs.Given.{Given, given}
 
-abbrev pub plan-of : ℕ → ℕ → Plan
-plan-of n b = record { sections = n; frontier = b }
+-- ---- a plan
+abbrev pub plan-told : Whole Plan → ℕ
+plan-told no-form = 20
+plan-told (accepted p) = plan-judged p
 
--- the refusal n where the bytes are the body of a record SI, else 20
-abbrev pub of-body : List ℕ → ℕ → ℕ
-of-body si n = if eqb (length si) 19 then n else 20
+abbrev pub plan-refusal : List ℕ → ℕ
+plan-refusal bytes = plan-told (whole plan bytes)
 
-module _ (n b : ℕ) (si : List ℕ) where
-  abbrev pub situation-refusal : ℕ
-  situation-refusal = of-body si (judged (plan-of n b) (situation-of si))
+-- ---- a situation
+abbrev pub situation-told : Whole Given → ℕ
+situation-told no-form = 20
+situation-told (accepted g) = judged (g .plan) (g .situation)
 
-  -- "an accepted event rewrites si, a refused one changes no byte"
-  abbrev pub event-refusal : ℕ → ℕ → ℕ
-  event-refusal code argument = of-body si (applied (plan-of n b) (situation-of si) (event code argument) .refusal)
+abbrev pub situation-refusal : List ℕ → List ℕ → ℕ
+situation-refusal plan-bytes situation-bytes = situation-told (given plan-bytes situation-bytes)
 
-  abbrev pub si-after : ℕ → ℕ → List ℕ
-  si-after code argument =
-      if eqb (event-refusal code argument) 0 then situation-bytes (applied (plan-of n b) (situation-of si) (event code argument) .next) else si
+-- ---- an event
+abbrev pub event-in : List ℕ → Event
+event-in bytes = event (getD bytes 0 0) (getD bytes 1 0)
 
-  -- refusal + 256 * value
-  abbrev pub packed : Told → ℕ
-  packed t = t .refusal + 256 * t .value
+-- no situation is ever longer
+abbrev pub longest-situation : ℕ
+longest-situation = 96
 
-  abbrev pub reading-packed : ℕ → ℕ → ℕ
-  reading-packed kind argument = of-body si (packed (reading (plan-of n b) (situation-of si) kind argument))
+-- what has to be right before the event's own refusals
+abbrev pub before-event : Plan → Kept → Event → ℕ → ℕ
+before-event p x e room = judged p x or-else event-refusal p e or-else 24 unless leb longest-situation room
 
+abbrev pub tried-refusal : Plan → Kept → Event → ℕ → ℕ
+tried-refusal p x e room = before-event p x e room or-else own-refusal p x e
+
+abbrev pub event-told : Whole Given → List ℕ → List ℕ → ℕ
+event-told no-form e room = 20
+event-told (accepted g) e room = 20 unless eqb (length e) 2 or-else tried-refusal (g .plan) (g .situation) (event-in e) (length room)
+
+-- the situation after, as records
+abbrev pub record-after : Plan → Kept → Event → List ℕ
+record-after p x e = situation .written (codes-of (reached p x e))
+
+abbrev pub records-after : Whole Given → List ℕ → List ℕ
+records-after no-form e = []
+records-after (accepted g) e = record-after (g .plan) (g .situation) (event-in e)
+
+-- "refusal + 2^8 name + 2^16 length": there is no name yet
+abbrev pub told-with : ℕ → List ℕ → ℕ
+told-with refusal after = refusal + 65536 * (if eqb refusal 0 then length after else 0)
+
+abbrev pub room-with : ℕ → List ℕ → List ℕ → List ℕ
+room-with refusal after room = if eqb refusal 0 then laid after room else room
+
+abbrev pub event-packed : Whole Given → List ℕ → List ℕ → ℕ
+event-packed g e room = told-with (event-told g e room) (records-after g e)
+
+abbrev pub event-room : Whole Given → List ℕ → List ℕ → List ℕ
+event-room g e room = room-with (event-told g e room) (records-after g e) room
+
+-- ---- a reading: kind and argument
+abbrev pub reading-told : Whole Given → List ℕ → Told
+reading-told no-form r = nothing-told 20
+reading-told (accepted g) r = if eqb (length r) 2 then reading (g .plan) (g .situation) (getD r 0 0) (getD r 1 0) else nothing-told 20
+
+-- "refusal + 2^8 value"
+abbrev pub packed : Told → ℕ
+packed t = t .refusal + 256 * t .value
+
+-- ---- aspects
 -- the signals 1..n, then 129..128+n
 abbrev pub signal-at : ℕ → ℕ → ℕ
 signal-at n i = if ltb i n then 1 + i else 129 + (i - n)
@@ -51,18 +95,18 @@ unfoldable pub first-aspects : Plan → Kept → ℕ → List ℕ
 first-aspects p x zero = []
 first-aspects p x (suc i) = first-aspects p x i ++ (aspect p x (signal-at (p .sections) i) ∷ [])
 
--- what the signals of a direction show over the first sections
-unfoldable pub first-shown : Lights → ℕ → List ℕ
-first-shown l zero = []
-first-shown l (suc i) = first-shown l i ++ (shown l (i + 1) ∷ [])
+abbrev pub all-aspects : Given → List ℕ
+all-aspects g = first-aspects (g .plan) (g .situation) (g .plan .sections + g .plan .sections)
 
-module _ (n b : ℕ) (si room : List ℕ) where
-  -- "room too short is 24", after 20, 1 and 2
-  abbrev pub aspects-refusal : ℕ
-  aspects-refusal =
-      if eqb (situation-refusal n b si) 0 then (if leb (n + n) (length room) then 0 else 24)
-      else situation-refusal n b si
+abbrev pub aspects-told : Whole Given → List ℕ → ℕ
+aspects-told no-form room = 20
+aspects-told (accepted g) room =
+    judged (g .plan) (g .situation) or-else 24 unless leb (g .plan .sections + g .plan .sections) (length room)
 
-  -- "writes 2n bytes: aspects of 1..n, then of 129..128+n"; "later bytes keep their values"
-  abbrev pub aspects-room : List ℕ
-  aspects-room = if eqb aspects-refusal 0 then first-aspects (plan-of n b) (situation-of si) (n + n) ++ drop (n + n) room else room
+-- "writes 2n bytes: aspects of 1..n, then of 129..128+n"
+abbrev pub aspects-written : Whole Given → List ℕ
+aspects-written no-form = []
+aspects-written (accepted g) = all-aspects g
+
+abbrev pub aspects-room : Whole Given → List ℕ → List ℕ
+aspects-room g room = room-with (aspects-told g room) (aspects-written g) room

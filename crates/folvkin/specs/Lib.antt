@@ -1,2 +1,3 @@
 pub mod Block
 pub mod Questions
+pub mod ShownInTurn

@@ -1,97 +1,141 @@
-// Plans, situations, events, aspects and readings. `si` is the body of record SI, 19 bytes; another length is refused with 20.
+// Plans, situations, events, aspects and readings. A plan and a situation are the records of a question, exactly as they stand there.
 ghost use mathlib.Core.Path.{_≡_};
 ghost use mathlib.Core.Bool.{true};
 ghost use Prim.Native.Nat.{_+_, _≤_};
 ghost use mathlib.Core.List.{_++_};
 ghost use lib.ListN.{length, drop};
-ghost use Rattle.block.specs.Judged.{plan-judged};
+ghost use Rattle.forms.specs.Whole.{accepted};
 ghost use Rattle.block.specs.Line.{isPlan};
 ghost use Rattle.situation.specs.Packed.{unpacked};
-ghost use Rattle.folvkin.specs.Block.{plan-of, situation-refusal, event-refusal, si-after, reading-packed, first-shown, first-aspects, aspects-refusal, aspects-room};
+ghost use Rattle.paper.specs.Given.{given};
+ghost use Rattle.folvkin.specs.ShownInTurn.{first-shown};
+ghost use Rattle.folvkin.specs.Block.{before-event, tried-refusal, record-after, told-with, room-with, plan-refusal, situation-refusal, event-packed, event-room, reading-told, packed, first-aspects, aspects-told, aspects-room};
 use block::event::Event;
 use block::line::Direction;
 use block::line::Plan;
 use block::line::plan_judged;
+use block::refused::ACCEPTED;
 use block::refused::NO_FORM;
 use block::refused::SHORT_ROOM;
-use bodies::body_of;
-use bodies::situation_in;
-use events::apply;
+use events::next;
+use events::own_refusal;
+use lists::event_refusal;
+use paper::given::both_given;
+use records::lists::EVENT;
+use records::plan::plan_in;
+use records::plan::take_plan;
 use sections::one_down;
 use signals::lights::Lights;
 use signals::lights::all_lights;
 use signals::lights::shown;
 use signals::readings::reading;
 use situation::Situation;
+use situations::record_of;
+use situations::situation_in;
 use soundness::judged;
 
-#[no_mangle]
-pub extern "C" fn folvkin_plan(n: u8, b: u8) -> u8
-    ensures { λ r. ⌜ r ≡ plan-judged (plan-of n b) ⌝ }
-{
-    plan_judged(Plan {
-        sections: n,
-        frontier: b,
-    })
-}
+// No situation is ever longer.
+const LONGEST_SITUATION: usize = 96;
 
 #[no_mangle]
-pub extern "C" fn folvkin_situation(n: u8, b: u8, si: &[u8]) -> u8
-    ensures { λ r. ⌜ r ≡ situation-refusal n b (now (si .entry)) ⌝ }
+pub extern "C" fn folvkin_plan(plan: &[u8]) -> u8
+    ensures { λ r. ⌜ r ≡ plan-refusal (now (plan .entry)) ⌝ }
 {
-    if si.len() == 19 {
-        let x = situation_in(si);
-        return judged(
-            Plan {
-                sections: n,
-                frontier: b,
-            },
-            x,
-        );
+    let used = take_plan(plan);
+    if used == 0 {
+        return NO_FORM;
     }
-    NO_FORM
+    if used < plan.len() {
+        return NO_FORM;
+    }
+    plan_judged(plan_in(plan))
 }
 
-// An accepted event rewrites `si`, a refused one changes no byte.
 #[no_mangle]
-pub extern "C" fn folvkin_event(n: u8, b: u8, si: &mut [u8], code: u8, argument: u8) -> u8
-    ensures { λ r. ⌜ r ≡ event-refusal n b (now (si .entry)) code argument ⌝ }
-    ensures { λ _. ⌜ now (si .exit) ≡ si-after n b (now (si .entry)) code argument ⌝ }
+pub extern "C" fn folvkin_situation(plan: &[u8], situation: &[u8]) -> u8
+    ensures { λ r. ⌜ r ≡ situation-refusal (now (plan .entry)) (now (situation .entry)) ⌝ }
 {
-    if si.len() == 19 {
-        let plan = Plan {
-            sections: n,
-            frontier: b,
-        };
-        let x = situation_in(si);
-        let o = apply(plan, x, Event { code, argument });
-        let refusal = o.refusal;
-        if refusal == 0 {
-            let next = o.next;
-            let body = body_of(next);
-            bytes::copy(&body, si);
-            return 0;
-        }
+    if !both_given(plan, situation) {
+        return NO_FORM;
+    }
+    judged(plan_in(plan), situation_in(situation))
+}
+
+// What has to be right before the event's own refusals: 1, 2, 3, 4, 24.
+fn before_event(plan: Plan, x: Situation, event: Event, room: usize) -> u8
+    ensures { λ r. ⌜ r ≡ before-event plan (unpacked x) event room ⌝ }
+{
+    let refusal = judged(plan, x);
+    if refusal != ACCEPTED {
         return refusal;
     }
-    NO_FORM
+    let refusal = event_refusal(plan, event);
+    if refusal != ACCEPTED {
+        return refusal;
+    }
+    if room < LONGEST_SITUATION {
+        return SHORT_ROOM;
+    }
+    ACCEPTED
 }
 
-// Refusal + 256 * value.
-#[no_mangle]
-pub extern "C" fn folvkin_reading(n: u8, b: u8, si: &[u8], kind: u8, argument: u8) -> u32
-    ensures { λ r. ⌜ r ≡ reading-packed n b (now (si .entry)) kind argument ⌝ }
+// The event, and the situation after it as records.
+fn event_written(plan: Plan, x: Situation, event: Event, room: &mut [u8]) -> u64
+    ensures { λ r. ⌜ r ≡ told-with (tried-refusal plan (unpacked x) event (length (now (room .entry)))) (record-after plan (unpacked x) event) ⌝ }
+    ensures { λ _. ⌜ now (room .exit) ≡ room-with (tried-refusal plan (unpacked x) event (length (now (room .entry)))) (record-after plan (unpacked x) event) (now (room .entry)) ⌝ }
 {
-    if si.len() == 19 {
-        let plan = Plan {
-            sections: n,
-            frontier: b,
-        };
-        let x = situation_in(si);
-        let told = reading(plan, x, kind, argument);
-        return told.refusal as u32 + 256 * (told.value as u32);
+    let refusal = before_event(plan, x, event, room.len());
+    if refusal != ACCEPTED {
+        return refusal as u64;
     }
-    NO_FORM as u32
+    let refusal = own_refusal(plan, x, event);
+    if refusal != ACCEPTED {
+        return refusal as u64;
+    }
+    let si = record_of(next(plan, x, event));
+    let length = bytes::copy(&si, room);
+    65536 * (length as u64)
+}
+
+// Refusal + 2^8 name + 2^16 length. An accepted event writes the situation after it, as records; later bytes keep their values, and a refused one
+// changes no byte.
+#[no_mangle]
+pub extern "C" fn folvkin_event(plan: &[u8], situation: &[u8], event: &[u8], room: &mut [u8]) -> u64
+    ensures { λ r. ⌜ r ≡ event-packed (given (now (plan .entry)) (now (situation .entry))) (now (event .entry)) (now (room .entry)) ⌝ }
+    ensures { λ _. ⌜ now (room .exit) ≡ event-room (given (now (plan .entry)) (now (situation .entry))) (now (event .entry)) (now (room .entry)) ⌝ }
+{
+    if !both_given(plan, situation) {
+        return NO_FORM as u64;
+    }
+    if event.len() != EVENT {
+        return NO_FORM as u64;
+    }
+    let event = Event {
+        code: event[0],
+        argument: event[1],
+    };
+    let plan = plan_in(plan);
+    event_written(plan, situation_in(situation), event, room)
+}
+
+// Refusal + 2^8 value. A reading is kind and argument.
+#[no_mangle]
+pub extern "C" fn folvkin_reading(plan: &[u8], situation: &[u8], kind_and_argument: &[u8]) -> u32
+    ensures { λ r. ⌜ r ≡ packed (reading-told (given (now (plan .entry)) (now (situation .entry))) (now («kind_and_argument» .entry))) ⌝ }
+{
+    if !both_given(plan, situation) {
+        return NO_FORM as u32;
+    }
+    if kind_and_argument.len() != 2 {
+        return NO_FORM as u32;
+    }
+    let told = reading(
+        plan_in(plan),
+        situation_in(situation),
+        kind_and_argument[0],
+        kind_and_argument[1],
+    );
+    told.refusal as u32 + 256 * (told.value as u32)
 }
 
 // The aspects of the signals of a direction over the sections 1..n, each as section 0 of sets that move down. Later bytes keep their
@@ -127,26 +171,23 @@ fn show(plan: Plan, x: Situation, room: &mut [u8])
 
 // Writes 2n bytes: the aspects of 1..n, then of 129..128+n. A room too short is refused with 24; later bytes keep their values.
 #[no_mangle]
-pub extern "C" fn folvkin_aspects(n: u8, b: u8, si: &[u8], room: &mut [u8]) -> u8
-    ensures { λ r. ⌜ r ≡ aspects-refusal n b (now (si .entry)) (now (room .entry)) ⌝ }
-    ensures { λ _. ⌜ now (room .exit) ≡ aspects-room n b (now (si .entry)) (now (room .entry)) ⌝ }
+pub extern "C" fn folvkin_aspects(plan: &[u8], situation: &[u8], room: &mut [u8]) -> u8
+    ensures { λ r. ⌜ r ≡ aspects-told (given (now (plan .entry)) (now (situation .entry))) (now (room .entry)) ⌝ }
+    ensures { λ _. ⌜ now (room .exit) ≡ aspects-room (given (now (plan .entry)) (now (situation .entry))) (now (room .entry)) ⌝ }
 {
-    if si.len() == 19 {
-        let plan = Plan {
-            sections: n,
-            frontier: b,
-        };
-        let x = situation_in(si);
-        let unfit = judged(plan, x);
-        if unfit == 0 {
-            let end = n as usize + n as usize;
-            if end <= room.len() {
-                show(plan, x, room);
-                return 0;
-            }
-            return SHORT_ROOM;
-        }
-        return unfit;
+    if !both_given(plan, situation) {
+        return NO_FORM;
     }
-    NO_FORM
+    let plan = plan_in(plan);
+    let x = situation_in(situation);
+    let refusal = judged(plan, x);
+    if refusal != ACCEPTED {
+        return refusal;
+    }
+    let n = plan.sections as usize;
+    if room.len() < n + n {
+        return SHORT_ROOM;
+    }
+    show(plan, x, room);
+    ACCEPTED
 }

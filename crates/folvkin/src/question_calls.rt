@@ -6,17 +6,18 @@ ghost use Rattle.paper.specs.Read.{readOf};
 ghost use Rattle.folvkin.specs.Questions.{question-refusal, key-packed, key-room, run-packed};
 use keys::key;
 use keys::run;
-use paper::refusal::question_refusal;
+use paper::found::find;
 use words::flag;
 
 #[no_mangle]
 pub extern "C" fn folvkin_question(bytes: &[u8]) -> u8
     ensures { λ r. ⌜ r ≡ question-refusal (now (bytes .entry)) ⌝ }
 {
-    question_refusal(bytes)
+    let q = find(bytes);
+    q.refusal
 }
 
-// Refusal + 256 * more + 65536 * count. The slots are written into the room, later bytes keep their values.
+// Refusal + 2^8 more + 2^16 count. The slots are written into the room, later bytes keep their values.
 #[no_mangle]
 pub extern "C" fn folvkin_key(bytes: &[u8], after: &[u8], room: &mut [u8]) -> u64
     ensures { λ r. ⌜ r ≡ key-packed (now (bytes .entry)) (now (after .entry)) (now (room .entry)) ⌝ }
@@ -27,15 +28,15 @@ pub extern "C" fn folvkin_key(bytes: &[u8], after: &[u8], room: &mut [u8]) -> u6
     part.refusal as u64 + 256 * (more as u64) + 65536 * part.count
 }
 
-// Refusal + 256 * place + 65536 * event's refusal + 16777216 * holds.
+// Refusal + 2^8 place + 2^16 event's refusal + 2^24 holds + 2^32 name.
 #[no_mangle]
-pub extern "C" fn folvkin_run(bytes: &[u8], slot: &[u8]) -> u32
+pub extern "C" fn folvkin_run(bytes: &[u8], slot: &[u8]) -> u64
     ensures { λ r. ⌜ r ≡ run-packed (now (bytes .entry)) (now (slot .entry)) ⌝ }
 {
     let ran = run(bytes, slot);
     let holds = flag(ran.holds);
-    ran.refusal as u32
-        + 256 * (ran.place as u32)
-        + 65536 * (ran.event_refusal as u32)
-        + 16777216 * (holds as u32)
+    ran.refusal as u64
+        + 256 * (ran.place as u64)
+        + 65536 * (ran.event_refusal as u64)
+        + 16777216 * (holds as u64)
 }

@@ -43,9 +43,6 @@ at-the-start bytes =
     let whole = ap length (after-the-start (rules q) (q .length) (q .situation)) in
     record { continues = start-continues (rules q .events) (q .length); counted = omega (arith, whole) }
 
-few-events : (q : Question) → Bounded q → rules q .events ≤ 12
-few-events q b = omega (arith, length-take (2 * q .events .count) (q .events .bytes))
-
 -- a turn: its call continues where the loop stands, with a room of six bytes or more, and leaves what it promises
 pub record Turn (bytes after room now : List ℕ) (total : ℕ) (r : Fetched) : Type 0 where
   pub stands : Stands bytes after total
@@ -92,7 +89,7 @@ module _ {bytes after room now : List ℕ} {total : ℕ} {r : Fetched} (turn : T
     unfolding call left
     sum-fits =
         let q = asked bytes in
-        omega (arith, turn .stands .counted, ap (λ (p : Part). p .count) part, count-left (rules q) (q .length) (q .situation) (bounds .2) after room (turn .six), key-few (rules q) (q .length) (q .situation) (few-events q bounds) (bounds .2))
+        omega (arith, turn .stands .counted, ap (λ (p : Part). p .count) part, count-left (rules q) (q .length) (q .situation) (bounds .2) after room (turn .six), key-few (rules q) (q .length) (q .situation) (bounds .0) (bounds .2))
 
     pub last-ending : r .more ≡ false → record { refusal = 0; total = total + r .count } ≡ ending (readOf bytes)
     unfolding call left

@@ -13,8 +13,8 @@ use libc::STDOUT_FILENO;
 use slots::form::FROM_START;
 use slots::form::SLOT;
 
-// A question has at most 76 bytes: of a longer input so many are enough to find bytes left over.
-const INPUT: usize = 128;
+// A question has at most 76 bytes (crate questions, Longest): of a longer input one byte more is enough to refuse it.
+const INPUT: usize = 77;
 
 // The sequences of a part of the key.
 const PART: usize = 4096;

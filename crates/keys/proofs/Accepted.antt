@@ -1,95 +1,89 @@
--- What the bytes of an accepted question give the code: its counts keep to the document, from refusals 20 and 21, its events are right, from 3 and
--- 4, and its parts stand where the code takes them from.
+-- What is found of an accepted question gives the code: its counts keep to the document, from refusals 20 and 21, its events are right, from 3 and
+-- 4, and its lists lie where the code takes them from.
 use Prim.Native.Nat.{ℕ, _+_, _-_, _*_, _≤_}
 use mathlib.Core.Path.{_≡_, refl, sym, ap, _∙_}
 use mathlib.Core.Bool.{true}
 use mathlib.Core.List.{List, [], _∷_}
 use native.Mathlib.Omega.{arith}
-use lib.ListN.{length, take, drop, getD, length-drop}
+use lib.ListN.{length, take, drop, length-drop}
 use lib.Seq.{length-take-le}
 use Rattle.words.proofs.Tests.{holds-is}
-use Rattle.block.specs.Line.{isPlan}
 use Rattle.block.specs.declared.line.Plan.{Plan}
-use Rattle.block.specs.Apply.{event, known, argument-right}
-use Rattle.records.specs.Situation.{situation-of}
+use Rattle.block.specs.declared.event.Event.{Event}
+use Rattle.block.specs.declared.reading.Reading.{Reading}
+use Rattle.block.specs.Line.{isPlan}
+use Rattle.block.specs.Situation.{Kept}
+use Rattle.situation.specs.Packed.{unpacked}
+use Rattle.lists.specs.Refusal.{_or-else_, event-refusal, events-refusal}
+use Rattle.lists.proofs.RightLists.{or-else-none, event-right, lists-right}
+use Rattle.records.specs.InBytes.{part, events-in, readings-in}
 use Rattle.rules.specs.Judged.{all-right}
-use Rattle.listing.specs.Refusal.{_unless_, event-refusal, events-refusal}
-use Rattle.listing.proofs.RightLists.{or-else-none, unless-none}
-use Rattle.paper.specs.Question.{Question, events-of, readings-of}
-use Rattle.paper.proofs.AcceptedQuestions.{plan-is-one, events-counted, readings-counted, length-at-most-5, lists, read-is-accepted}
-use Rattle.paper.proofs.AcceptedLayout.{AcceptedLayout, accepted-layout}
-use Rattle.keys.specs.Key.{Accepted, question-in, Bounded, rules}
+use Rattle.paper.specs.Question.{Question}
+use Rattle.paper.specs.Read.{Read}
+use Rattle.paper.specs.Found.{Lies}
+use Rattle.paper.specs.declared.found.Found.{Found}
+use Rattle.paper.proofs.Accepted.{accepted}
+use Rattle.paper.proofs.ReadBytes.{read-is-accepted}
+use Rattle.keys.specs.Key.{Accepted, question-in, Bounded}
 
 -- events of which no check fails
-right-events : (p : Plan) (events : List ℕ) → events-refusal p events ≡ 0 → all-right p events ≡ true
-unfolding events-refusal event-refusal all-right
+right-events : (p : Plan) (events : List Event) → events-refusal p events ≡ 0 → all-right p events ≡ true
+unfolding events-refusal all-right
 right-events p [] h = refl
-right-events p (code ∷ []) h = refl
-right-events p (code ∷ arg ∷ rest) h =
-    let a = or-else-none (event-refusal p (event code arg)) _ h in
-    let b = or-else-none (3 unless known (event code arg)) (4 unless argument-right p (event code arg)) (a .0) in
-    rw (unless-none 2 (known (event code arg)) (b .0), unless-none 3 (argument-right p (event code arg)) (b .1)) (right-events p rest (a .1))
+right-events p (e ∷ rest) h =
+    let a = or-else-none (event-refusal p e) _ h in
+    let b = event-right p e (a .0) in
+    rw (b .0, b .1) (right-events p rest (a .1))
 
 module _ (bytes : List ℕ) (ok : Accepted bytes) where
   abbrev q : Question
   q = question-in bytes
 
   pub bounded : Bounded q
-  bounded = let a = read-is-accepted bytes ok in (events-counted q a .1, readings-counted q a, length-at-most-5 q a)
+  bounded =
+      let a = accepted q (read-is-accepted bytes ok) in
+      (a .counts .1, a .counts .2, lists-right _ _ _ _ (a .lists) .short)
 
-  pub right : all-right (q .plan) (events-of q) ≡ true
-  right = right-events (q .plan) (events-of q) (lists q (read-is-accepted bytes ok) .events-right)
+  right : all-right (q .plan) (q .events) ≡ true
+  right = right-events (q .plan) (q .events) (lists-right _ _ _ _ (accepted q (read-is-accepted bytes ok) .lists) .events-right)
 
-  layout : AcceptedLayout q bytes
-  layout = accepted-layout bytes ok
+  plan-right : isPlan (q .plan) ≡ true
+  plan-right = holds-is (isPlan (q .plan)) (accepted q (read-is-accepted bytes ok) .plan)
 
-  pub size : length bytes ≡ 34 + 2 * q .events .count + 3 * q .readings .count
-  size = layout .size
+-- ---- as it is found
+module _ (r : Found) (bytes : List ℕ) (lies : Lies r bytes) (none : r .refusal ≡ 0) where
+  pub ok : Accepted bytes
+  ok = sym (ap (λ (o : Read). o .refusal) (lies .0)) ∙ none
 
-  -- the bytes that the code reads
-  pub plan-there : record { sections = getD bytes 2 0; frontier = getD bytes 3 0 } ≡ q .plan
-  plan-there = sym (layout .plan)
+  pub plan-is : r .plan ≡ question-in bytes .plan
+  plan-is = ap (λ (o : Read). o .question .plan) (lies .0)
 
-  pub situation-there : situation-of (take 19 (drop 6 bytes)) ≡ q .situation
-  situation-there = sym (layout .situation)
+  pub situation-is : unpacked (r .situation) ≡ question-in bytes .situation
+  situation-is = ap (λ (o : Read). o .question .situation) (lies .0)
 
-  pub count-there : getD bytes 27 0 ≡ q .events .count
-  count-there = sym (layout .count)
+  pub length-is : r .length ≡ question-in bytes .length
+  length-is = ap (λ (o : Read). o .question .length) (lies .0)
 
-  pub length-there : getD bytes (length bytes - 1) 0 ≡ q .length
-  length-there =
-      let e : length bytes - 1 ≡ 33 + 2 * q .events .count + 3 * q .readings .count = omega (arith, size) in
-      ap (λ (k : ℕ). getD bytes k 0) e ∙ sym (layout .longest)
+  pub count-is : r .count ≡ length (question-in bytes .events)
+  count-is = lies .1
 
-  -- the rules have as many events as the question counts
-  events-length : length (events-of q) ≡ 2 * q .events .count
-  events-length =
-      ap length (layout .events) ∙ length-take-le (2 * q .events .count) (drop 28 bytes) (omega (arith, size, length-drop 28 bytes))
+  abbrev pub events-part : List ℕ
+  events-part = part (r .events) (r .«events_end») bytes
 
-  pub events-number : rules q .events ≡ q .events .count
-  events-number = omega (arith, events-length)
+  abbrev pub readings-part : List ℕ
+  readings-part = part (r .readings) (r .«readings_end») bytes
 
-  -- the parts of the bytes that the code takes
-  module _ (end : ℕ) (e : end ≡ 28 + 2 * q .events .count) where
-    abbrev pub events-part : List ℕ
-    events-part = take (end - 28) (drop 28 bytes)
+  pub events-are : events-in events-part ≡ question-in bytes .events
+  events-are = ap (λ (o : Read). o .question .events) (lies .0)
 
-    abbrev pub readings-part : List ℕ
-    readings-part = take (length bytes - 3 - (end + 3)) (drop (end + 3) bytes)
+  pub readings-are : readings-in readings-part ≡ question-in bytes .readings
+  readings-are = ap (λ (o : Read). o .question .readings) (lies .0)
 
-    pub events-there : events-part ≡ events-of q
-    events-there =
-        let k : end - 28 ≡ 2 * q .events .count = omega (arith, e) in
-        ap (λ (n : ℕ). take n (drop 28 bytes)) k ∙ sym (layout .events)
+  pub at-most-24 : length events-part ≤ 24
+  at-most-24 =
+      let b = bounded bytes ok .0 in
+      let n : r .«events_end» - r .events ≤ length (drop (r .events) bytes) = omega (arith, lies .2, lies .4, length-drop (r .events) bytes) in
+      omega (arith, length-take-le (r .«events_end» - r .events) (drop (r .events) bytes) n, lies .2, b)
 
-    pub readings-there : readings-part ≡ readings-of q
-    readings-there =
-        let k : length bytes - 3 - (end + 3) ≡ 3 * q .readings .count = omega (arith, e, size) in
-        let j : end + 3 ≡ 31 + 2 * q .events .count = omega (arith, e) in
-        ap (λ (n : ℕ). take n (drop (end + 3) bytes)) k ∙ ap (λ (n : ℕ). take (3 * q .readings .count) (drop n bytes)) j ∙ sym (layout .readings)
-
-    pub at-most-24 : length events-part ≤ 24
-    at-most-24 = omega (arith, ap length events-there, events-length, bounded .0)
-
-    pub right-there : (plan : Plan) → plan ≡ q .plan → (all-right plan events-part ≡ true) × (isPlan plan ≡ true)
-    right-there plan p = (rw (p, events-there) right, ap isPlan p ∙ holds-is (isPlan (q .plan)) (plan-is-one q (read-is-accepted bytes ok)))
+  pub right-there : (all-right (r .plan) (events-in events-part) ≡ true) × (isPlan (r .plan) ≡ true)
+  right-there = (rw (plan-is, events-are) (right bytes ok), ap isPlan plan-is ∙ plan-right bytes ok)

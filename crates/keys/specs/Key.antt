@@ -2,10 +2,11 @@
 use Prim.Native.Nat.{ℕ, _≤_}
 use mathlib.Core.Path.{_≡_}
 use mathlib.Core.List.{List}
+use lib.ListN.{length as size}
 use Rattle.keylaws.specs.Rules.{Rules, Word}
 use Rattle.keylaws.specs.Key.{answers}
 use Rattle.rules.specs.RulesOf.{rulesOf}
-use Rattle.paper.specs.Question.{Question, events-of, readings-of}
+use Rattle.paper.specs.Question.{Question}
 use Rattle.paper.specs.Read.{readOf}
 
 -- bytes that are accepted, and the question that bytes are read as
@@ -17,10 +18,10 @@ question-in bytes = readOf bytes .question
 
 -- EV up to 12, RD up to 6, LN up to 5: so it is of every accepted question
 abbrev pub Bounded : Question → Type 0
-Bounded q = (q .events .count ≤ 12) × (q .readings .count ≤ 6) × (q .length ≤ 5)
+Bounded q = (size (q .events) ≤ 12) × (size (q .readings) ≤ 6) × (q .length ≤ 5)
 
 abbrev pub rules : Question → Rules
-rules q = rulesOf (q .plan) (events-of q) (readings-of q)
+rules q = rulesOf (q .plan) (q .events) (q .readings)
 
 -- "every sequence of permitted events, up to the question's length, in which each event is accepted in its turn and every reading holds at the end"
 abbrev pub key-of : Question → List Word

@@ -1,7 +1,6 @@
 // Keys of questions: fetched in parts, and candidates' slots run, where the question's bytes lie.
 ghost use mathlib.Core.Path.{_≡_};
 ghost use mathlib.Core.Bool.{true, false};
-ghost use Prim.Native.Nat.{_+_, _*_};
 ghost use lib.ListN.{length};
 ghost use Rattle.keylaws.specs.Slots.{wordOf, isSlot};
 ghost use Rattle.keylaws.specs.Continuation.{isContinuation};
@@ -9,15 +8,15 @@ ghost use Rattle.keylaws.specs.Parts.{handed, partAfter};
 ghost use Rattle.keylaws.specs.Run.{run};
 ghost use Rattle.rules.specs.Told.{outcome};
 ghost use Rattle.paper.specs.Read.{readOf};
-ghost use Rattle.keys.specs.Key.{Accepted, question-in, rules};
+ghost use Rattle.paper.specs.Found.{Lies};
+ghost use Rattle.keys.specs.Key.{question-in, rules};
 ghost use Rattle.keys.specs.Calls.{none, left-by, part-of, fetched, not-run, slot-run, ran};
-use block::line::Plan;
 use block::refused::ACCEPTED;
 use block::refused::MALFORMED_SLOT;
 use block::refused::SHORT_ROOM;
-use bodies::situation_in;
 use engine::key_part;
-use paper::refusal::question_refusal;
+use paper::found::Found;
+use paper::found::find;
 use rules::run::Told;
 use rules::run::run_places;
 use slots::form::SLOT;
@@ -25,16 +24,6 @@ use slots::form::is_continuation;
 use slots::form::is_slot;
 use slots::room::Part;
 use words::wide;
-
-// Where an accepted question has them: the body of SI, how many events it lists, and the events. EV is followed by RD, whose readings come after
-// three bytes, and RD by LN, the last three bytes.
-const SITUATION: usize = 6;
-
-const SITUATION_END: usize = 25;
-
-const COUNT: usize = 27;
-
-const EVENTS: usize = 28;
 
 // The refusal, whether more remain, and how many slots were written.
 pub struct Fetched {
@@ -69,77 +58,41 @@ fn six(x: &[u8]) -> [u8; 6]
     [x[0], x[1], x[2], x[3], x[4], x[5]]
 }
 
-// An accepted question's plan.
-fn plan_in(bytes: &[u8]) -> Plan
-    requires { ⌜ Accepted (now bytes) ⌝ }
-    ensures { λ r. ⌜ r ≡ question-in (now (bytes .entry)) .plan ⌝ }
-{
-    Plan {
-        sections: bytes[2],
-        frontier: bytes[3],
-    }
-}
-
-// How many events it permits.
-fn count_in(bytes: &[u8]) -> u8
-    requires { ⌜ Accepted (now bytes) ⌝ }
-    ensures { λ r. ⌜ r ≡ rules (question-in (now (bytes .entry))) .events ⌝ }
-{
-    bytes[COUNT]
-}
-
-// How many events an answer may have.
-fn length_in(bytes: &[u8]) -> u8
-    requires { ⌜ Accepted (now bytes) ⌝ }
-    ensures { λ r. ⌜ r ≡ question-in (now (bytes .entry)) .length ⌝ }
-{
-    bytes[bytes.len() - 1]
-}
-
-// Where its events end.
-fn events_end(bytes: &[u8]) -> usize
-    requires { ⌜ Accepted (now bytes) ⌝ }
-    ensures { λ r. ⌜ r ≡ 28 + 2 * question-in (now (bytes .entry)) .events .count ⌝ }
-{
-    EVENTS + 2 * wide(bytes[COUNT])
-}
-
 // The part of an accepted question's key after a continuation.
-fn part_after(bytes: &[u8], after: &[u8], room: &mut [u8]) -> Part
-    requires { ⌜ Accepted (now bytes) ⌝ }
-    requires { ⌜ isContinuation (rules (question-in (now bytes)) .events) (question-in (now bytes) .length) (now after) ≡ true ⌝ }
+fn part_after(q: Found, bytes: &[u8], after: &[u8], room: &mut [u8]) -> Part
+    requires { ⌜ Lies q (now bytes) × (q .refusal ≡ 0) ⌝ }
+    requires { ⌜ isContinuation (q .count) (q .length) (now after) ≡ true ⌝ }
     ensures { λ r. ⌜ handed (now (room .exit)) (r .count) (r .more) ≡ partAfter (rules (question-in (now (bytes .entry)))) (question-in (now (bytes .entry)) .length) (question-in (now (bytes .entry)) .situation) (now (after .entry)) (now (room .entry)) ⌝ }
 {
-    let end = events_end(bytes);
-    let items = end + 3;
-    let last = bytes.len() - 3;
-    let limit = wide(length_in(bytes));
-    let plan = plan_in(bytes);
+    let events = q.events;
+    let events_end = q.events_end;
+    let readings = q.readings;
+    let readings_end = q.readings_end;
+    let limit = wide(q.length);
     let from = six(after);
-    let start = situation_in(&bytes[SITUATION..SITUATION_END]);
     key_part(
-        start,
+        q.situation,
         limit,
-        plan,
+        q.plan,
         from,
-        &bytes[EVENTS..end],
-        &bytes[items..last],
+        &bytes[events..events_end],
+        &bytes[readings..readings_end],
         room,
     )
 }
 
 // An accepted question: refusals 22, 24.
-fn fetch(bytes: &[u8], after: &[u8], room: &mut [u8]) -> Fetched
-    requires { ⌜ Accepted (now bytes) ⌝ }
+fn fetch(q: Found, bytes: &[u8], after: &[u8], room: &mut [u8]) -> Fetched
+    requires { ⌜ Lies q (now bytes) × (q .refusal ≡ 0) ⌝ }
     ensures { λ r. ⌜ left-by r (now (room .exit)) ≡ part-of (question-in (now (bytes .entry))) (now (after .entry)) (now (room .entry)) ⌝ }
 {
-    if !is_continuation(count_in(bytes), length_in(bytes), after) {
+    if !is_continuation(q.count, q.length, after) {
         return nothing(MALFORMED_SLOT);
     }
     if room.len() < SLOT {
         return nothing(SHORT_ROOM);
     }
-    let part = part_after(bytes, after, room);
+    let part = part_after(q, bytes, after, room);
     Fetched {
         refusal: ACCEPTED,
         more: part.more,
@@ -152,30 +105,29 @@ fn fetch(bytes: &[u8], after: &[u8], room: &mut [u8]) -> Fetched
 pub fn key(bytes: &[u8], after: &[u8], room: &mut [u8]) -> Fetched
     ensures { λ r. ⌜ left-by r (now (room .exit)) ≡ fetched (readOf (now (bytes .entry))) (now (after .entry)) (now (room .entry)) ⌝ }
 {
-    let refusal = question_refusal(bytes);
-    if refusal != ACCEPTED {
-        return nothing(refusal);
+    let q = find(bytes);
+    if q.refusal != ACCEPTED {
+        return nothing(q.refusal);
     }
-    fetch(bytes, after, room)
+    fetch(q, bytes, after, room)
 }
 
 // The places of a slot, run in an accepted question.
-fn run_slot(bytes: &[u8], slot: &[u8]) -> Told
-    requires { ⌜ Accepted (now bytes) ⌝ }
-    requires { ⌜ isSlot (rules (question-in (now bytes)) .events) (question-in (now bytes) .length) (now slot) ≡ true ⌝ }
+fn run_slot(q: Found, bytes: &[u8], slot: &[u8]) -> Told
+    requires { ⌜ Lies q (now bytes) × (q .refusal ≡ 0) ⌝ }
+    requires { ⌜ isSlot (q .count) (q .length) (now slot) ≡ true ⌝ }
     ensures { λ r. ⌜ outcome r ≡ run (rules (question-in (now (bytes .entry)))) (question-in (now (bytes .entry)) .situation) (wordOf (now (slot .entry))) ⌝ }
 {
-    let end = events_end(bytes);
-    let items = end + 3;
-    let last = bytes.len() - 3;
+    let events = q.events;
+    let events_end = q.events_end;
+    let readings = q.readings;
+    let readings_end = q.readings_end;
     let places = 1 + wide(slot[0]);
-    let plan = plan_in(bytes);
-    let start = situation_in(&bytes[SITUATION..SITUATION_END]);
     run_places(
-        plan,
-        start,
-        &bytes[EVENTS..end],
-        &bytes[items..last],
+        q.plan,
+        q.situation,
+        &bytes[events..events_end],
+        &bytes[readings..readings_end],
         &slot[1..places],
     )
 }
@@ -192,14 +144,14 @@ fn not_run(refusal: u8) -> Ran
 }
 
 // An accepted question: refusal 22.
-fn run_in(bytes: &[u8], slot: &[u8]) -> Ran
-    requires { ⌜ Accepted (now bytes) ⌝ }
+fn run_in(q: Found, bytes: &[u8], slot: &[u8]) -> Ran
+    requires { ⌜ Lies q (now bytes) × (q .refusal ≡ 0) ⌝ }
     ensures { λ r. ⌜ r ≡ slot-run (question-in (now (bytes .entry))) (now (slot .entry)) ⌝ }
 {
-    if !is_slot(count_in(bytes), length_in(bytes), slot) {
+    if !is_slot(q.count, q.length, slot) {
         return not_run(MALFORMED_SLOT);
     }
-    let told = run_slot(bytes, slot);
+    let told = run_slot(q, bytes, slot);
     Ran {
         refusal: ACCEPTED,
         place: told.place,
@@ -212,9 +164,9 @@ fn run_in(bytes: &[u8], slot: &[u8]) -> Ran
 pub fn run(bytes: &[u8], slot: &[u8]) -> Ran
     ensures { λ r. ⌜ r ≡ ran (readOf (now (bytes .entry))) (now (slot .entry)) ⌝ }
 {
-    let refusal = question_refusal(bytes);
-    if refusal != ACCEPTED {
-        return not_run(refusal);
+    let q = find(bytes);
+    if q.refusal != ACCEPTED {
+        return not_run(q.refusal);
     }
-    run_in(bytes, slot)
+    run_in(q, bytes, slot)
 }

@@ -1,12 +1,4 @@
 pub mod Accepted
-pub mod Assembled
-pub mod InPlace
-pub mod Laid
-pub mod WholeForm
-pub mod WrittenIsRead
-pub mod OneForm
-pub mod PartsAreRefused
-pub mod BytesNoSituationHas
-pub mod AcceptedQuestions
-pub mod AcceptedLayout
-pub mod ReadInTurn
+pub mod FoundThere
+pub mod GivenThere
+pub mod ReadBytes

@@ -1,4 +1,5 @@
 pub mod Question
 pub mod Refusal
 pub mod Read
-pub mod Write
+pub mod Found
+pub mod Given

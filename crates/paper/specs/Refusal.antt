@@ -2,11 +2,12 @@
 -- its lists give. 0 is accepted.
 use Prim.Native.Nat.{ℕ}
 use mathlib.Core.Bool.{Bool}
+use lib.ListN.{length}
 use lib.Dec.{leb}
 use Rattle.words.specs.Words.{_and_}
 use Rattle.block.specs.Judged.{judged}
-use Rattle.listing.specs.Refusal.{_unless_, _or-else_, lists-refusal}
-use Rattle.paper.specs.Question.{Question, events-of, readings-of}
+use Rattle.lists.specs.Refusal.{_unless_, _or-else_, lists-refusal}
+use Rattle.paper.specs.Question.{Question}
 
 -- "EV, count 1..12"; "RD, count 0..6"
 unfoldable pub counts-in-range : ℕ → ℕ → Bool
@@ -14,6 +15,6 @@ counts-in-range events readings = leb 1 events and leb events 12 and leb reading
 
 unfoldable pub refusalOf : Question → ℕ
 refusalOf q =
-    20 unless counts-in-range (q .events .count) (q .readings .count)
+    20 unless counts-in-range (length (q .events)) (length (q .readings))
     or-else judged (q .plan) (q .situation)
-    or-else lists-refusal (q .plan) (events-of q) (readings-of q) (q .length)
+    or-else lists-refusal (q .plan) (q .events) (q .readings) (q .length)

@@ -1,6 +1,3 @@
-// A question: read from bytes, judged, and written again. Each accepted question has one byte form.
-pub mod judge;
-pub mod question;
-pub mod read;
-pub mod refusal;
-pub mod write;
+// A question, found where its bytes lie; a plan and a situation given apart.
+pub mod found;
+pub mod given;

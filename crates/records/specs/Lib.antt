@@ -1,5 +1,7 @@
-pub mod Form
 pub mod Plan
 pub mod Situation
 pub mod Lists
-pub mod Length
+pub mod Question
+pub mod InBytes
+pub mod Sizes
+pub mod Laid

@@ -1,54 +1,52 @@
--- "EV, count 1..12, then events; RD, count 0..6, then readings of three bytes". An event is two bytes.
-use Prim.Native.Nat.{ℕ, _-_, _*_}
+-- "EV, count 1..12, then events; RD, count 0..6, then readings of three bytes; LN, length 0..5." A length above 5 is 21, and no matter of form.
+use Prim.Native.Nat.{ℕ, _-_}
 use mathlib.Core.List.{List}
-use lib.ListN.{take, drop, getD, replicate}
-use lib.Dec.{ltb}
-use Rattle.words.specs.Words.{if_then_else_}
-use Rattle.records.specs.Form.{list-written, counted, filled}
-use Rattle.records.specs.declared.form.Mark.{Mark}
-use Rattle.records.specs.declared.lists.Events.{Events}
-use Rattle.records.specs.declared.lists.Readings.{Readings}
-use Rattle.records.specs.declared.lists.EventsRead.{EventsRead}
-use Rattle.records.specs.declared.lists.ReadingsRead.{ReadingsRead}
+use lib.ListN.{getD}
+use Rattle.block.specs.Apply.{event}
+use Rattle.block.specs.declared.event.Event.{Event}
+use Rattle.block.specs.declared.reading.Reading.{Reading}
+use Rattle.forms.specs.declared.Letters.{Letters}
+use Rattle.forms.specs.Form.{Form}
+use Rattle.forms.specs.Compose.{byte, _⊗_, letters, counted, named}
 
-abbrev pub EV : Mark
+abbrev pub EV : Letters
 EV = record { first = 69; second = 86 }
 
-abbrev pub RD : Mark
+abbrev pub RD : Letters
 RD = record { first = 82; second = 68 }
 
-abbrev pub events-written : Events → List ℕ
-events-written es = list-written EV 2 (es .count) (es .bytes)
+abbrev pub LN : Letters
+LN = record { first = 76; second = 78 }
 
-abbrev pub readings-written : Readings → List ℕ
-readings-written rs = list-written RD 3 (rs .count) (rs .bytes)
+-- "An event is two bytes, code and argument."
+abbrev pub event-of : ℕ × ℕ → Event
+event-of (c, a) = event c a
 
-abbrev pub no-events : Events
-no-events = record { count = 0; bytes = replicate 24 0 }
+abbrev pub event-parts : Event → ℕ × ℕ
+event-parts e = (e .code, e .argument)
 
-abbrev pub no-readings : Readings
-no-readings = record { count = 0; bytes = replicate 18 0 }
+abbrev pub one-event : Form Event
+one-event = named event-of event-parts (byte ⊗ byte)
 
--- the list of a record that takes so many bytes
-abbrev pub events-in : ℕ → List ℕ → EventsRead
-events-in used s =
-    if ltb used 3 then record { used = 0; events = no-events }
-    else record { used = used; events = record { count = getD s 2 0; bytes = filled 24 (take (used - 3) (drop 3 s)) } }
+unfoldable pub events : Form (List Event)
+events = letters EV (counted 1 12 one-event)
 
-abbrev pub readings-in : ℕ → List ℕ → ReadingsRead
-readings-in used s =
-    if ltb used 3 then record { used = 0; readings = no-readings }
-    else record { used = used; readings = record { count = getD s 2 0; bytes = filled 18 (take (used - 3) (drop 3 s)) } }
+-- "Reading: kind, argument, value"
+abbrev pub reading-of : ℕ × (ℕ × ℕ) → Reading
+reading-of (k, (a, v)) = record { kind = k; argument = a; value = v }
 
-unfoldable pub events-read : List ℕ → EventsRead
-events-read s = events-in (counted EV 1 12 2 s) s
+abbrev pub reading-parts : Reading → ℕ × (ℕ × ℕ)
+reading-parts r = (r .kind, (r .argument, r .value))
 
-unfoldable pub readings-read : List ℕ → ReadingsRead
-readings-read s = readings-in (counted RD 0 6 3 s) s
+abbrev pub one-reading : Form Reading
+one-reading = named reading-of reading-parts (byte ⊗ byte ⊗ byte)
 
--- "past a count, as zeros"
-abbrev pub events-filled : Events → Events
-events-filled es = record { count = es .count; bytes = filled 24 (take (2 * es .count) (es .bytes)) }
+unfoldable pub readings : Form (List Reading)
+readings = letters RD (counted 0 6 one-reading)
 
-abbrev pub readings-filled : Readings → Readings
-readings-filled rs = record { count = rs .count; bytes = filled 18 (take (3 * rs .count) (rs .bytes)) }
+unfoldable pub answer-length : Form ℕ
+answer-length = letters LN byte
+
+-- the event at a place of EV, counted from 1
+unfoldable pub event-at : List Event → ℕ → Event
+event-at items place = getD items (place - 1) (event 0 0)

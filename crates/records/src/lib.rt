@@ -1,6 +1,7 @@
-// The records of a question. Each is read off the front of a slice: how many bytes it takes, 0 where it does not stand there, and its value.
+// The records of a question: how many bytes each takes where it stands at the front of a slice, and what lies in them.
+pub mod field;
 pub mod form;
-pub mod length;
 pub mod lists;
 pub mod plan;
-pub mod si;
+pub mod question;
+pub mod situation;

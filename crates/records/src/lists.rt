@@ -1,85 +1,65 @@
-// EV, count 1..12, then events; RD, count 0..6, then readings of three bytes.
+// EV, count 1..12, then events; RD, count 0..6, then readings of three bytes; LN, length.
 ghost use mathlib.Core.Path.{_≡_};
-ghost use Prim.Native.Nat.{_≤_};
+ghost use Prim.Native.Nat.{_*_, _≤_};
 ghost use lib.ListN.{length};
-ghost use Rattle.records.specs.Lists.{events-read, readings-read};
-use super::form::Mark;
+ghost use Rattle.forms.specs.Taken.{taken};
+ghost use Rattle.records.specs.Lists.{events, readings, answer-length, event-at};
+ghost use Rattle.records.specs.InBytes.{events-in};
 use super::form::counted;
+use super::form::fixed;
+use block::event::Event;
+use forms::Letters;
 
-pub const EV: Mark = Mark {
+pub const EV: Letters = Letters {
     first: b'E',
     second: b'V',
 };
 
-pub const RD: Mark = Mark {
+pub const RD: Letters = Letters {
     first: b'R',
     second: b'D',
+};
+
+pub const LN: Letters = Letters {
+    first: b'L',
+    second: b'N',
 };
 
 pub const MOST_EVENTS: u8 = 12;
 
 pub const MOST_READINGS: u8 = 6;
 
-// Two bytes each, code and argument; zeros past the count.
-pub struct Events {
-    pub count: u8,
-    pub bytes: [u8; 24],
-}
+// How many bytes an event has, and a reading.
+pub const EVENT: usize = 2;
 
-// Three bytes each, kind, argument and value; zeros past the count.
-pub struct Readings {
-    pub count: u8,
-    pub bytes: [u8; 18],
-}
+pub const READING: usize = 3;
 
-pub struct EventsRead {
-    pub used: usize,
-    pub events: Events,
-}
-
-pub struct ReadingsRead {
-    pub used: usize,
-    pub readings: Readings,
-}
-
-pub fn read_events(s: &[u8]) -> EventsRead
-    ensures { λ r. ⌜ r ≡ events-read (now (s .entry)) ⌝ }
-    ensures { λ r. ⌜ r .used ≤ length (now (s .entry)) ⌝ }
+pub fn take_events(s: &[u8]) -> usize
+    ensures { λ r. ⌜ (r ≡ taken events (now (s .entry))) × (r ≤ length (now (s .entry))) ⌝ }
 {
-    let mut items = [0u8; 24];
-    let used = counted(s, EV, 1, MOST_EVENTS, 2);
-    if used < 3 {
-        let events = Events {
-            count: 0,
-            bytes: items,
-        };
-        return EventsRead { used: 0, events };
-    }
-    bytes::copy(&s[3..used], &mut items);
-    let events = Events {
-        count: s[2],
-        bytes: items,
-    };
-    EventsRead { used, events }
+    counted(s, EV, 1, MOST_EVENTS, EVENT)
 }
 
-pub fn read_readings(s: &[u8]) -> ReadingsRead
-    ensures { λ r. ⌜ r ≡ readings-read (now (s .entry)) ⌝ }
-    ensures { λ r. ⌜ r .used ≤ length (now (s .entry)) ⌝ }
+pub fn take_readings(s: &[u8]) -> usize
+    ensures { λ r. ⌜ (r ≡ taken readings (now (s .entry))) × (r ≤ length (now (s .entry))) ⌝ }
 {
-    let mut items = [0u8; 18];
-    let used = counted(s, RD, 0, MOST_READINGS, 3);
-    if used < 3 {
-        let readings = Readings {
-            count: 0,
-            bytes: items,
-        };
-        return ReadingsRead { used: 0, readings };
+    counted(s, RD, 0, MOST_READINGS, READING)
+}
+
+pub fn take_length(s: &[u8]) -> usize
+    ensures { λ r. ⌜ (r ≡ taken answer-length (now (s .entry))) × (r ≤ length (now (s .entry))) ⌝ }
+{
+    fixed(s, LN, 1)
+}
+
+// The event at a place, counted from 1.
+pub fn event_at(events: &[u8], place: usize) -> Event
+    requires { ⌜ (1 ≤ place) × (2 * place ≤ length (now events)) ⌝ }
+    ensures { λ r. ⌜ r ≡ event-at (events-in (now (events .entry))) place ⌝ }
+{
+    let at = EVENT * (place - 1);
+    Event {
+        code: events[at],
+        argument: events[at + 1],
     }
-    bytes::copy(&s[3..used], &mut items);
-    let readings = Readings {
-        count: s[2],
-        bytes: items,
-    };
-    ReadingsRead { used, readings }
 }

@@ -2,39 +2,32 @@
 ghost use mathlib.Core.Path.{_≡_};
 ghost use Prim.Native.Nat.{_≤_};
 ghost use lib.ListN.{length};
-ghost use Rattle.records.specs.Plan.{plan-read};
-use super::form::Mark;
-use super::form::stands;
+ghost use Rattle.forms.specs.Taken.{taken};
+ghost use Rattle.records.specs.Plan.{plan};
+ghost use Rattle.records.specs.InBytes.{plan-at};
+use super::form::fixed;
 use block::line::Plan;
+use forms::Letters;
 
-pub const LB: Mark = Mark {
+pub const LB: Letters = Letters {
     first: b'L',
     second: b'B',
 };
 
-pub struct PlanRead {
-    pub used: usize,
-    pub plan: Plan,
+// How many bytes the plan takes; 0 where it does not stand there.
+pub fn take_plan(s: &[u8]) -> usize
+    ensures { λ r. ⌜ (r ≡ taken plan (now (s .entry))) × (r ≤ length (now (s .entry))) ⌝ }
+{
+    fixed(s, LB, 2)
 }
 
-pub fn read_plan(s: &[u8]) -> PlanRead
-    ensures { λ r. ⌜ r ≡ plan-read (now (s .entry)) ⌝ }
-    ensures { λ r. ⌜ r .used ≤ length (now (s .entry)) ⌝ }
+// The plan that a record says.
+pub fn plan_in(lb: &[u8]) -> Plan
+    requires { ⌜ 4 ≤ length (now lb) ⌝ }
+    ensures { λ r. ⌜ r ≡ plan-at (now (lb .entry)) ⌝ }
 {
-    if stands(s, LB, 2) {
-        return PlanRead {
-            used: 4,
-            plan: Plan {
-                sections: s[2],
-                frontier: s[3],
-            },
-        };
-    }
-    PlanRead {
-        used: 0,
-        plan: Plan {
-            sections: 0,
-            frontier: 0,
-        },
+    Plan {
+        sections: lb[2],
+        frontier: lb[3],
     }
 }

@@ -1,6 +1,6 @@
 -- All readings hold exactly in the situations that are what they ask put together, where from the first aspect on the aspects hold.
 -- Assumes nothing.
-use Prim.Native.Nat.{ℕ, _/_, _^_, suc, _-_, _%_, _≤_}
+use Prim.Native.Nat.{ℕ, _/_, _^_, suc, _-_, _≤_}
 use mathlib.Core.Path.{_≡_, refl, sym, ap, _∙_}
 use mathlib.Core.Bool.{Bool, true, false}
 use mathlib.Core.List.{List, [], _∷_}
@@ -20,9 +20,10 @@ use Rattle.situation.specs.CodeSets.{own-codes, other-codes}
 use Rattle.situation.proofs.CodeSets.{six-all, by-value, agrees}
 use Rattle.situation.specs.declared.Situation.{Situation as Packed}
 use Rattle.signals.specs.Aspects.{aspect}
-use Rattle.signals.specs.Readings.{value-read, reading-holds}
-use Rattle.signals.specs.CodesRead.{of-station, codes-of, codes-where, line-read}
+use Rattle.signals.specs.Readings.{line-read, value-read, reading-holds}
+use Rattle.signals.specs.CodesRead.{of-station, codes-of, codes-where}
 use Rattle.signals.proofs.CodesRead.{in-codes, line-is}
+use Rattle.records.specs.InBytes.{readings-in}
 use Rattle.rules.specs.RulesOf.{all-hold}
 use Rattle.rules.specs.Wanted.{anything, with-own, with-other, with-codes, with-line, with-aspect, with-reading, with-readings, wanted-of, where-line, as-wanted, aspect-holds, aspects-hold}
 use Rattle.rules.specs.declared.wanted.Wanted.{Wanted}
@@ -104,8 +105,8 @@ module _ (x : Packed) where
         go false e true f = and-true _ ∙ codes-too arg w (codes-where kind value) ∙ ap (λ (b : Bool). as-wanted w x and b) (in-codes x arg p kind e f value)
         go false e false f = and-true _ ∙ line-too w value ∙ ap (λ (n : ℕ). as-wanted w x and eqb n value) (line-is p (unpacked x) kind arg e f)
 
-    readings-too : (w : Wanted) (t : List ℕ) → (as-wanted (with-readings w t) x and aspects-hold p t (unpacked x)) ≡ (as-wanted w x and all-hold p t (unpacked x))
-    unfolding with-readings aspects-hold all-hold
+    readings-too : (w : Wanted) (t : List ℕ) → (as-wanted (with-readings w t) x and aspects-hold p (readings-in t) (unpacked x)) ≡ (as-wanted w x and all-hold p (readings-in t) (unpacked x))
+    unfolding with-readings aspects-hold all-hold readings-in
     readings-too w [] = refl
     readings-too w (kind ∷ []) = refl
     readings-too w (kind ∷ arg ∷ []) = refl
@@ -113,12 +114,12 @@ module _ (x : Packed) where
         let y = unpacked x in
         let v = with-reading kind arg value (length (kind ∷ arg ∷ value ∷ t)) w in
         let one = aspect-holds p y kind arg value in
-        between (as-wanted (with-readings v t) x) one (aspects-hold p t y)
+        between (as-wanted (with-readings v t) x) one (aspects-hold p (readings-in t) y)
         ∙ ap (λ (b : Bool). one and b) (readings-too v t)
-        ∙ sym (between (as-wanted v x) one (all-hold p t y))
-        ∙ sym (and-group (as-wanted v x) one (all-hold p t y))
-        ∙ ap (λ (b : Bool). b and all-hold p t y) (reading-too w kind arg value (length (kind ∷ arg ∷ value ∷ t)))
-        ∙ and-group (as-wanted w x) (reading-holds p y kind arg value) (all-hold p t y)
+        ∙ sym (between (as-wanted v x) one (all-hold p (readings-in t) y))
+        ∙ sym (and-group (as-wanted v x) one (all-hold p (readings-in t) y))
+        ∙ ap (λ (b : Bool). b and all-hold p (readings-in t) y) (reading-too w kind arg value (length (kind ∷ arg ∷ value ∷ t)))
+        ∙ and-group (as-wanted w x) (reading-holds p y kind arg value) (all-hold p (readings-in t) y)
 
   -- nothing is asked before the first reading
   anything-is-wanted : as-wanted anything x ≡ true
@@ -159,10 +160,10 @@ aspects-kept w (kind ∷ arg ∷ value ∷ t) h =
 -- from there on the aspects are all that there are; 0 says that there are none
 module _ (p : Plan) (y : Situation) where
   abbrev from-first : List ℕ → ℕ → Bool
-  from-first t n = if eqb n 0 then true else aspects-hold p (drop (length t - n) t) y
+  from-first t n = if eqb n 0 then true else aspects-hold p (readings-in (drop (length t - n) t)) y
 
-  aspects-from : (w : Wanted) (t : List ℕ) → w .aspects ≡ 0 → (with-readings w t .aspects ≤ length t) × (aspects-hold p t y ≡ from-first t (with-readings w t .aspects))
-  unfolding with-readings aspects-hold
+  aspects-from : (w : Wanted) (t : List ℕ) → w .aspects ≡ 0 → (with-readings w t .aspects ≤ length t) × (aspects-hold p (readings-in t) y ≡ from-first t (with-readings w t .aspects))
+  unfolding with-readings aspects-hold readings-in
   aspects-from w [] h = rw h (omega arith, refl)
   aspects-from w (kind ∷ []) h = rw h (omega arith, refl)
   aspects-from w (kind ∷ arg ∷ []) h = rw h (omega arith, refl)
@@ -175,9 +176,9 @@ module _ (p : Plan) (y : Situation) where
       v = with-reading kind arg value (length whole) w
 
       Result : Type 0
-      Result = (with-readings v t .aspects ≤ length whole) × (aspects-hold p whole y ≡ from-first whole (with-readings v t .aspects))
+      Result = (with-readings v t .aspects ≤ length whole) × (aspects-hold p (readings-in whole) y ≡ from-first whole (with-readings v t .aspects))
 
-      go : (one : Bool) → eqb kind 1 ≡ one → (v .aspects ≡ 0 → (with-readings v t .aspects ≤ length t) × (aspects-hold p t y ≡ from-first t (with-readings v t .aspects))) → Result
+      go : (one : Bool) → eqb kind 1 ≡ one → (v .aspects ≡ 0 → (with-readings v t .aspects ≤ length t) × (aspects-hold p (readings-in t) y ≡ from-first t (with-readings v t .aspects))) → Result
       go true e rest =
           let all : v .aspects ≡ length whole = reading-aspects w kind arg value (length whole) ∙ rw (e, h) refl in
           let n : with-readings v t .aspects ≡ length whole = aspects-kept v t (ne-eqb (v .aspects) 0 (λ z. omega arith)) ∙ all in
@@ -189,19 +190,19 @@ module _ (p : Plan) (y : Situation) where
           let on : length whole - n ≡ suc (suc (suc (length t - n))) = omega (arith, ih .0) in
           let kind-is : aspect-holds p y kind arg value ≡ true = rw e refl in (
             omega (arith, ih .0),
-            ap (λ (b : Bool). b and aspects-hold p t y) kind-is
+            ap (λ (b : Bool). b and aspects-hold p (readings-in t) y) kind-is
                 ∙ ih .1
-                ∙ ap (λ (j : ℕ). if eqb n 0 then true else aspects-hold p (drop j whole) y) (sym on),
+                ∙ ap (λ (j : ℕ). if eqb n 0 then true else aspects-hold p (readings-in (drop j whole)) y) (sym on),
           )
 
   pub aspects-within : (w : Wanted) (t : List ℕ) → w ≡ wanted-of t → w .aspects ≤ length t
   aspects-within w t e = rw e (aspects-from anything t refl .0)
 
 -- all readings hold: the situation is what they ask put together, and from the first aspect on the aspects hold
-pub all-hold-is : (p : Plan) (x : Packed) (w : Wanted) (t : List ℕ) → w ≡ wanted-of t → all-hold p t (unpacked x) ≡ (as-wanted w x and from-first p (unpacked x) t (w .aspects))
+pub all-hold-is : (p : Plan) (x : Packed) (w : Wanted) (t : List ℕ) → w ≡ wanted-of t → all-hold p (readings-in t) (unpacked x) ≡ (as-wanted w x and from-first p (unpacked x) t (w .aspects))
 all-hold-is p x w t e =
     let y = unpacked x in
-    sym (ap (λ (b : Bool). b and all-hold p t y) (anything-is-wanted x))
+    sym (ap (λ (b : Bool). b and all-hold p (readings-in t) y) (anything-is-wanted x))
     ∙ sym (readings-too x p anything t)
     ∙ ap (λ (b : Bool). as-wanted (wanted-of t) x and b) (aspects-from p y anything t refl .1)
     ∙ rw e refl

@@ -1,35 +1,32 @@
 -- The rules of a question, in the form that a key knows them: the real events and readings, on one plan.
-use Prim.Native.Nat.{ℕ, _+_, _-_, _*_, _/_}
+use Prim.Native.Nat.{ℕ}
 use mathlib.Core.Bool.{Bool, true}
 use mathlib.Core.List.{List, [], _∷_}
-use lib.ListN.{length, getD}
+use lib.ListN.{length}
 use Rattle.words.specs.Words.{_and_}
 use Rattle.keylaws.specs.Rules.{Rules}
 use Rattle.block.specs.declared.line.Plan.{Plan}
 use Rattle.block.specs.declared.event.Event.{Event}
+use Rattle.block.specs.declared.reading.Reading.{Reading}
 use Rattle.block.specs.Situation.{Kept}
-use Rattle.block.specs.Apply.{event, stepped, Outcome}
+use Rattle.block.specs.Apply.{stepped, Outcome}
 use Rattle.signals.specs.Readings.{reading-holds}
+use Rattle.records.specs.Lists.{event-at}
 
--- "An event is two bytes, code and argument": the event at a place, counted from 1, and what it gives
-abbrev pub event-at : List ℕ → ℕ → Event
-event-at events place = event (getD events (2 * (place - 1)) 0) (getD events (2 * (place - 1) + 1) 0)
-
-abbrev pub tried : Plan → List ℕ → Kept → ℕ → Outcome
+-- what the event at a place gives
+abbrev pub tried : Plan → List Event → Kept → ℕ → Outcome
 tried p events x place = stepped p x (event-at events place)
 
--- "readings of three bytes": kind, argument, value; whether all of them hold
-unfoldable pub all-hold : Plan → List ℕ → Kept → Bool
+-- whether all readings hold
+unfoldable pub all-hold : Plan → List Reading → Kept → Bool
 all-hold p [] x = true
-all-hold p (kind ∷ []) x = true
-all-hold p (kind ∷ arg ∷ []) x = true
-all-hold p (kind ∷ arg ∷ value ∷ readings) x = reading-holds p x kind arg value and all-hold p readings x
+all-hold p (r ∷ rest) x = reading-holds p x (r .kind) (r .argument) (r .value) and all-hold p rest x
 
-abbrev pub rulesOf : Plan → List ℕ → List ℕ → Rules
+abbrev pub rulesOf : Plan → List Event → List Reading → Rules
 rulesOf p events readings =
     record {
       Situation = Kept;
-      events = length events / 2;
+      events = length events;
       refusal = λ x place. tried p events x place .refusal;
       next = λ x place. tried p events x place .next;
       holds = all-hold p readings;

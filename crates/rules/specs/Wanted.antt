@@ -1,5 +1,5 @@
--- Nothing here has to be believed: what the readings of a question ask, put together before any situation is tried. That all readings hold
--- exactly where it is met is proved.
+-- Nothing here has to be believed: what the readings of a question ask, put together before any situation is tried, from their bytes. That all
+-- readings hold exactly where it is met is proved.
 use Prim.Native.Nat.{ℕ}
 use mathlib.Core.Path.{_≡_}
 use mathlib.Core.Bool.{Bool, true}
@@ -11,12 +11,14 @@ use Rattle.sections.specs.Sections.{none, _belongs-to_}
 use Rattle.sections.specs.Sets.{both}
 use Rattle.block.specs.Situation.{Kept}
 use Rattle.block.specs.declared.line.Plan.{Plan}
+use Rattle.block.specs.declared.reading.Reading.{Reading}
 use Rattle.block.specs.Line.{isPlan}
 use Rattle.situation.specs.Packed.{unpacked}
 use Rattle.situation.specs.declared.Situation.{Situation as Packed}
 use Rattle.situation.specs.CodeSets.{own-codes, other-codes, for-value}
 use Rattle.signals.specs.Aspects.{aspect}
-use Rattle.signals.specs.CodesRead.{of-station, codes-where, line-read}
+use Rattle.signals.specs.CodesRead.{of-station, codes-where}
+use Rattle.signals.specs.Readings.{line-read}
 use Rattle.rules.specs.declared.wanted.Wanted.{Wanted}
 
 -- the line: 0 free, 1 not
@@ -59,7 +61,7 @@ with-readings w (kind ∷ arg ∷ value ∷ readings) = with-readings (with-read
 abbrev pub wanted-of : List ℕ → Wanted
 wanted-of readings = with-readings anything readings
 
--- the readings are put together, of a question whose plan is judged
+-- the readings in these bytes are put together, of a question whose plan is judged
 abbrev pub Asked : Plan → Wanted → List ℕ → Type 0
 Asked p w readings = (isPlan p ≡ true) × (w ≡ wanted-of readings)
 
@@ -71,8 +73,6 @@ as-wanted w x = own-codes x belongs-to w .own and other-codes x belongs-to w .ot
 abbrev pub aspect-holds : Plan → Kept → ℕ → ℕ → ℕ → Bool
 aspect-holds p x kind arg value = if eqb kind 1 then eqb (aspect p x arg) value else true
 
-unfoldable pub aspects-hold : Plan → List ℕ → Kept → Bool
+unfoldable pub aspects-hold : Plan → List Reading → Kept → Bool
 aspects-hold p [] x = true
-aspects-hold p (kind ∷ []) x = true
-aspects-hold p (kind ∷ arg ∷ []) x = true
-aspects-hold p (kind ∷ arg ∷ value ∷ readings) x = aspect-holds p x kind arg value and aspects-hold p readings x
+aspects-hold p (r ∷ rest) x = aspect-holds p x (r .kind) (r .argument) (r .value) and aspects-hold p rest x

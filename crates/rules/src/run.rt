@@ -1,21 +1,22 @@
 // A candidate's run.
 ghost use mathlib.Core.Path.{_≡_};
-ghost use Prim.Native.Nat.{_/_, _≤_};
+ghost use Prim.Native.Nat.{_≤_};
 ghost use lib.ListN.{length};
 ghost use Rattle.keylaws.specs.Key.{Permitted};
 ghost use Rattle.keylaws.specs.Run.{run};
+ghost use Rattle.records.specs.InBytes.{events-in, readings-in};
 ghost use Rattle.rules.specs.RulesOf.{rulesOf};
 ghost use mathlib.Core.Bool.{true};
 ghost use Rattle.situation.specs.Packed.{unpacked};
 ghost use Rattle.block.specs.Line.{isPlan};
 ghost use Rattle.rules.specs.Judged.{all-right};
 ghost use Rattle.rules.specs.Told.{outcome};
-use super::tries::event_at;
 use super::wanted::all_hold;
 use super::wanted::wanted_of;
 use block::line::Plan;
 use events::next;
 use events::own_refusal;
+use records::lists::event_at;
 use situation::Situation;
 
 // The place of the first refused event within the slot, from 1, and its refusal, or 0, 0 and whether all readings hold.
@@ -33,9 +34,9 @@ pub fn run_places(
     readings: &[u8],
     places: &[u8],
 ) -> Told
-    requires { ⌜ (length (now places) ≤ 5) × Permitted (length (now events) / 2) (now places) ⌝ }
-    requires { ⌜ (all-right plan (now events) ≡ true) × (isPlan plan ≡ true) ⌝ }
-    ensures { λ r. ⌜ outcome r ≡ run (rulesOf plan (now (events .entry)) (now (readings .entry))) (unpacked start) (now (places .entry)) ⌝ }
+    requires { ⌜ (length (now places) ≤ 5) × Permitted (length (events-in (now events))) (now places) ⌝ }
+    requires { ⌜ (all-right plan (events-in (now events)) ≡ true) × (isPlan plan ≡ true) ⌝ }
+    ensures { λ r. ⌜ outcome r ≡ run (rulesOf plan (events-in (now (events .entry))) (readings-in (now (readings .entry)))) (unpacked start) (now (places .entry)) ⌝ }
 {
     let mut x = start;
     let mut i = 0;

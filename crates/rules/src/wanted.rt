@@ -4,9 +4,11 @@ ghost use mathlib.Core.Path.{_≡_};
 ghost use mathlib.Core.Bool.{true};
 ghost use Rattle.block.specs.Line.{isPlan};
 ghost use Rattle.situation.specs.Packed.{unpacked};
+ghost use Rattle.records.specs.InBytes.{readings-in};
 ghost use Rattle.rules.specs.RulesOf.{all-hold};
 ghost use Rattle.rules.specs.Wanted.{where-line, with-codes, with-line, with-aspect, with-reading, wanted-of, Asked, as-wanted, aspects-hold};
 use block::line::Plan;
+use records::lists::READING;
 use sections::both;
 use sections::has;
 use signals::lights::aspect_of;
@@ -88,9 +90,9 @@ pub fn wanted_of(readings: &[u8]) -> Wanted
 {
     let mut w = ANYTHING;
     let mut rest = readings;
-    while 3 <= rest.len() {
+    while READING <= rest.len() {
         w = w.with_reading(rest[0], rest[1], rest[2], rest.len());
-        rest = &rest[3..];
+        rest = &rest[READING..];
     }
     w
 }
@@ -110,16 +112,16 @@ fn as_wanted(w: Wanted, x: Situation) -> bool
 
 fn aspects_hold(plan: Plan, x: Situation, readings: &[u8]) -> bool
     requires { ⌜ isPlan plan ≡ true ⌝ }
-    ensures { λ r. ⌜ r ≡ aspects-hold plan (now (readings .entry)) (unpacked x) ⌝ }
+    ensures { λ r. ⌜ r ≡ aspects-hold plan (readings-in (now (readings .entry))) (unpacked x) ⌝ }
 {
     let mut rest = readings;
-    while 3 <= rest.len() {
+    while READING <= rest.len() {
         if rest[0] == ASPECT {
             if aspect_of(plan, x, rest[1]) != rest[2] {
                 return false;
             }
         }
-        rest = &rest[3..];
+        rest = &rest[READING..];
     }
     true
 }
@@ -127,7 +129,7 @@ fn aspects_hold(plan: Plan, x: Situation, readings: &[u8]) -> bool
 // Whether all readings hold, of which w is what they ask.
 pub fn all_hold(plan: Plan, w: Wanted, x: Situation, readings: &[u8]) -> bool
     requires { ⌜ Asked plan w (now readings) ⌝ }
-    ensures { λ r. ⌜ r ≡ all-hold plan (now (readings .entry)) (unpacked x) ⌝ }
+    ensures { λ r. ⌜ r ≡ all-hold plan (readings-in (now (readings .entry))) (unpacked x) ⌝ }
 {
     if !as_wanted(w, x) {
         return false;

@@ -16,8 +16,8 @@ use Rattle.situation.specs.CodeSets.{own-codes, other-codes, where-orientation,
 use Rattle.situation.specs.declared.Situation.{Situation as Packed}
 use Rattle.situation.proofs.Exchanged.{others-flags}
 use Rattle.situation.proofs.CodeSets.{in-orientation, in-annulment, in-exit, code-below}
-use Rattle.signals.specs.Readings.{value-read}
-use Rattle.signals.specs.CodesRead.{of-station, codes-of, codes-where, code-read, line-read}
+use Rattle.signals.specs.Readings.{line-read, value-read}
+use Rattle.signals.specs.CodesRead.{of-station, codes-of, codes-where, code-read}
 
 module _ (x : Packed) (arg : ℕ) where
   -- a code of the station named, which the sets tell

@@ -4,7 +4,6 @@ use mathlib.Core.Bool.{Bool}
 use lib.Dec.{eqb}
 use Rattle.words.specs.Words.{_or_, if_then_else_}
 use Rattle.sections.specs.Sections.{_belongs-to_}
-use Rattle.block.specs.Situation.{Kept, line-free}
 use Rattle.situation.specs.CodeSets.{own-codes, other-codes, where-orientation, where-annulment, where-exit}
 use Rattle.situation.specs.declared.Situation.{Situation as Packed}
 
@@ -26,6 +25,3 @@ abbrev pub code-read : ℕ → ℕ → ℕ
 code-read kind codes =
     if codes belongs-to codes-where kind 1 then 1 else
     if codes belongs-to codes-where kind 2 then 2 else 0
-
-abbrev pub line-read : Kept → ℕ
-line-read x = if line-free x then 0 else 1

@@ -1,4 +1,4 @@
--- Which situation the words of the code are. Nothing about the block is defined here.
+-- A reader need not believe this file: which situation the words of the code are. Nothing about the block is defined here.
 use Prim.Native.Nat.{ℕ, _+_, _-_}
 use mathlib.Core.Bool.{Bool}
 use lib.Dec.{ltb}

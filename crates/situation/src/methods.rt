@@ -74,7 +74,7 @@ impl Situation {
     pub fn cobb(mut self, at: Spot) -> Situation
         ensures { λ r. ⌜ unpacked r ≡ leads Cobb at (unpacked self) ⌝ }
     {
-        self.reoriented(IN, OUT).settled(self)
+        self.reoriented(IN, OUT).settled(false, self)
     }
 
     // Own orientation becomes none; with link up the other's too.
@@ -91,13 +91,13 @@ impl Situation {
     pub fn afbli(mut self, at: Spot) -> Situation
         ensures { λ r. ⌜ unpacked r ≡ leads Afbli at (unpacked self) ⌝ }
     {
-        self.annul(at, AFBLI).cleared()
+        self.annul(at, AFBLI).settled(true, self)
     }
 
     pub fn afble(mut self, at: Spot) -> Situation
         ensures { λ r. ⌜ unpacked r ≡ leads Afble at (unpacked self) ⌝ }
     {
-        self.annul(at, AFBLE).cleared()
+        self.annul(at, AFBLE).settled(true, self)
     }
 
     pub fn dafbl(mut self, at: Spot) -> Situation
@@ -174,13 +174,13 @@ impl Situation {
     pub fn exit_normal(mut self, at: Spot) -> Situation
         ensures { λ r. ⌜ unpacked r ≡ leads ExitNormal at (unpacked self) ⌝ }
     {
-        self.exit(at, NORMAL).settled(self)
+        self.exit(at, NORMAL).settled(false, self)
     }
 
     pub fn exit_special(mut self, at: Spot) -> Situation
         ensures { λ r. ⌜ unpacked r ≡ leads ExitSpecial at (unpacked self) ⌝ }
     {
-        self.exit(at, SPECIAL).settled(self)
+        self.exit(at, SPECIAL).settled(false, self)
     }
 
     pub fn exit_released(mut self, at: Spot) -> Situation
@@ -228,7 +228,7 @@ impl Situation {
     {
         let plan = at.plan;
         let name = at.own;
-        let next = self.taken(at).cleared();
+        let next = self.taken(at).settled(true, self);
         if plan.is_first(name, at.section as u16) {
             let own = self.own();
             let turns = own.is_in() & self.line_free();
@@ -248,7 +248,7 @@ impl Situation {
     pub fn link_lost(mut self, at: Spot) -> Situation
         ensures { λ r. ⌜ unpacked r ≡ leads LinkLost at (unpacked self) ⌝ }
     {
-        self.with_link(false).cleared()
+        self.with_link(false).settled(true, self)
     }
 
     pub fn link_restored(mut self, at: Spot) -> Situation
@@ -258,6 +258,6 @@ impl Situation {
         if self.one_out_one_in() {
             return next;
         }
-        next.reoriented(NONE, NONE).settled(self)
+        next.reoriented(NONE, NONE).settled(false, self)
     }
 }

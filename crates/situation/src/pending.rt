@@ -1,6 +1,5 @@
 // Pending is cleared by any orientation change, any accepted AFBLI or AFBLE, any section becoming occupied, and link loss.
 ghost use mathlib.Core.Path.{_≡_};
-ghost use mathlib.Core.Bool.{false, true};
 ghost use Rattle.block.specs.Pending.{changes, orientation-change, pending-settled};
 ghost use Rattle.situation.specs.Packed.{station, unpacked};
 use super::Situation;
@@ -27,20 +26,13 @@ impl Situation {
         changes(own, next.own()) | changes(other, next.other())
     }
 
-    // Self, where an event leads from `before` that may change an orientation.
-    pub(crate) fn settled(self, before: Situation) -> Situation
-        ensures { λ r. ⌜ unpacked r ≡ pending-settled false (unpacked before) (unpacked self) ⌝ }
+    // Self, where an event leads from `before`; `always` says that the event clears pending by itself.
+    pub(crate) fn settled(self, always: bool, before: Situation) -> Situation
+        ensures { λ r. ⌜ unpacked r ≡ pending-settled always (unpacked before) (unpacked self) ⌝ }
     {
-        if before.orientation_change(self) {
+        if always | before.orientation_change(self) {
             return self.with_pending(NOBODY);
         }
         self
-    }
-
-    // Self, where an event leads that clears pending by itself.
-    pub(crate) fn cleared(self) -> Situation
-        ensures { λ r. ⌜ unpacked r ≡ pending-settled true (unpacked self) (unpacked self) ⌝ }
-    {
-        self.with_pending(NOBODY)
     }
 }

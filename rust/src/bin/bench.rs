@@ -28,10 +28,12 @@ use std::time::Instant;
 use folvkin_compare::Library;
 use folvkin_compare::cases::from_hex;
 use folvkin_compare::generate::{self, Search};
-use folvkin_compare::interface::{Interface, Plain};
+use folvkin_compare::interface::{EVENT_ROOM, Interface, Plain};
 use folvkin_compare::plain::key::{SLOT, START};
-use folvkin_compare::plain::{Parts, Situation};
+use folvkin_compare::plain::records::{PLAN, SITUATION, plan_record};
+use folvkin_compare::plain::{Line, Parts, Situation};
 use folvkin_compare::random::Random;
+use folvkin_compare::told;
 
 /// Papers with large keys; see NOTES.md.
 const LARGEST: &str = "4c42100f53490100000000000000000000000000000000000045560c1302130c0300130e1308010113071305130f1304130a13015244004c4e05";
@@ -248,23 +250,7 @@ impl Bench {
         let situations: Vec<_> = (0..4096)
             .map(|_| {
                 let line = generate::line(&mut r);
-                let si = generate::sound_or_reached(&mut r, &line).to_bytes();
-                let event = generate::event(&mut r, &line);
-                let (kind, argument) = loop {
-                    let (kind, argument) = generate::reading_bytes(&mut r, &line);
-                    if Plain::reading(line.sections(), line.frontier(), &si, kind, argument) & 255 == 0 {
-                        break (kind, argument);
-                    }
-                };
-                Given {
-                    n: line.sections(),
-                    b: line.frontier(),
-                    si,
-                    code: event.code,
-                    argument: event.argument,
-                    kind,
-                    of: argument,
-                }
+                Given::new(&mut r, &line)
             })
             .collect();
         let count = situations.len() * Given::TIMES;
@@ -289,30 +275,10 @@ impl Bench {
             .collect();
         self.line("question read, damaged", damaged.len() * 16, &mut Questions(&damaged));
         self.line("candidate's slot run", questions.len() * 16, &mut Runs(&questions));
-        let mut marks = Vec::new();
-        while marks.len() < 4096 {
-            let typed = generate::typed(&mut r);
-            if Plain::mark(
-                typed[0] as u8,
-                typed[1],
-                typed[2],
-                typed[3],
-                typed[4] as u8,
-                typed[5],
-                &mut [0; 13],
-            ) == 0
-            {
-                marks.push(typed);
-            }
-        }
+        let mut marks: Vec<_> =
+            std::iter::repeat_with(|| generate::typed(&mut r)).filter(is_marked).take(4096).collect();
         self.line("number marked, all kinds of floats", marks.len() * 4, &mut Marks(&marks));
-        for typed in &mut marks {
-            // As candidates type: near the answer, in tenths.
-            let (amount, speed) = (f64::from(typed[1]), f64::from(typed[2]));
-            let exact = if typed[0] == 1 { 3.6 * amount / speed } else { speed * amount / 3.6 };
-            typed[4] = typed[0];
-            typed[5] = ((exact * 10.0).round() as f32 / 10.0).to_bits();
-        }
+        marks.iter_mut().for_each(type_near_the_answer);
         self.line("number marked, near the answer", marks.len() * 4, &mut Marks(&marks));
         println!();
     }
@@ -368,17 +334,25 @@ impl Bench {
         self.head("Aspects by sections", "calls");
         let mut r = Random::new(2);
         for n in [2, 4, 8, 12, 16] {
-            let situations: Vec<_> = (0..2048)
-                .map(|_| {
-                    let line = folvkin_compare::plain::Line::new(n, n / 2).expect("a plan");
-                    let si = generate::sound_or_reached(&mut r, &line).to_bytes();
-                    Given { n, b: n / 2, si, code: 5, argument: 0, kind: 5, of: 0 }
-                })
-                .collect();
+            let line = Line::new(n, n / 2).expect("a plan");
+            let situations: Vec<_> = (0..2048).map(|_| Given::new(&mut r, &line)).collect();
             let count = situations.len() * Given::TIMES;
             self.line(&format!("{n} sections"), count, &mut AllAspects(&situations));
         }
     }
+}
+
+/// Whether a typed number is marked, not refused.
+fn is_marked(&[kind, amount, speed, tolerance, unit, pattern]: &[u32; 6]) -> bool {
+    Plain::mark(kind as u8, amount, speed, tolerance, unit as u8, pattern, &mut [0; 13]) == 0
+}
+
+/// As candidates type: near the answer, in tenths.
+fn type_near_the_answer([kind, amount, speed, _, unit, pattern]: &mut [u32; 6]) {
+    let (amount, speed) = (f64::from(*amount), f64::from(*speed));
+    let exact = if *kind == 1 { 3.6 * amount / speed } else { speed * amount / 3.6 };
+    *unit = *kind;
+    *pattern = ((exact * 10.0).round() as f32 / 10.0).to_bits();
 }
 
 struct WholeKey {
@@ -398,7 +372,7 @@ impl WholeKey {
     }
 
     fn count(&mut self) -> usize {
-        (self.work::<Plain>() >> 16) as usize
+        told::Key::from(self.work::<Plain>()).count
     }
 }
 
@@ -418,13 +392,12 @@ impl Work for KeyInParts {
         let mut after = START;
         let mut count = 0;
         loop {
-            let returned = I::key(&self.bytes, &after, &mut self.room);
-            let written = (returned >> 16) as usize;
-            count += written as u64;
-            if returned & 0xffff != 0x100 {
+            let told = told::Key::from(I::key(&self.bytes, &after, &mut self.room));
+            count += told.count as u64;
+            if told.refusal != 0 || told.more != 1 {
                 return count;
             }
-            after.copy_from_slice(&self.room[(written - 1) * SLOT..written * SLOT]);
+            after.copy_from_slice(&self.room[(told.count - 1) * SLOT..told.count * SLOT]);
         }
     }
 }
@@ -436,7 +409,7 @@ impl Work for Plans {
         let mut sum = 0;
         for n in 0..=255 {
             for b in 0..=255 {
-                sum += u64::from(I::plan(black_box(n), b));
+                sum += u64::from(I::plan(black_box(&plan_record(n, b))));
             }
         }
         sum
@@ -445,18 +418,23 @@ impl Work for Plans {
 
 /// A situation and what is asked of it.
 struct Given {
-    n: u8,
-    b: u8,
-    si: [u8; 19],
-    code: u8,
-    argument: u8,
-    kind: u8,
-    of: u8,
+    plan: [u8; PLAN],
+    situation: [u8; SITUATION],
+    event: [u8; 2],
+    reading: [u8; 2],
 }
 
 impl Given {
     /// How often all situations are gone through in one round.
     const TIMES: usize = 4;
+
+    fn new(r: &mut Random, line: &Line) -> Given {
+        let plan = line.to_record();
+        let situation = generate::sound_or_reached(r, line).to_record();
+        let event = generate::event(r, line).to_bytes();
+        let reading = generate::reading(r, line);
+        Given { plan, situation, event, reading }
+    }
 }
 
 struct Situations<'a>(&'a [Given]);
@@ -466,7 +444,7 @@ impl Work for Situations<'_> {
         let mut sum = 0;
         for _ in 0..Given::TIMES {
             for given in self.0 {
-                sum += u64::from(I::situation(given.n, given.b, &given.si));
+                sum += u64::from(I::situation(&given.plan, &given.situation));
             }
         }
         sum
@@ -477,46 +455,48 @@ struct Events<'a>(&'a [Given]);
 
 impl Work for Events<'_> {
     fn work<I: Interface>(&mut self) -> u64 {
+        let mut room = [0; EVENT_ROOM];
         let mut sum = 0;
         for _ in 0..Given::TIMES {
             for given in self.0 {
-                let mut si = given.si;
-                sum += u64::from(I::event(given.n, given.b, &mut si, given.code, given.argument));
-                sum += u64::from(si[1]) + u64::from(si[13]);
+                sum += I::event(&given.plan, &given.situation, &given.event, &mut room);
+                sum += u64::from(room[3]) + u64::from(room[15]);
             }
         }
         sum
     }
 }
 
-/// Events that each go on from what the one before left.
+/// Events that each go on from the records that the one before wrote.
 struct Walk {
-    n: u8,
-    b: u8,
+    plan: [u8; PLAN],
     events: Vec<[u8; 2]>,
 }
 
 impl Walk {
     fn new(r: &mut Random) -> Walk {
-        let line = folvkin_compare::plain::Line::new(9, 4).expect("a plan");
-        let events = (0..16_384)
-            .map(|_| {
-                let event = generate::event(r, &line);
-                [event.code, event.argument]
-            })
-            .collect();
-        Walk { n: 9, b: 4, events }
+        let line = Line::new(9, 4).expect("a plan");
+        let events = (0..16_384).map(|_| generate::event(r, &line).to_bytes()).collect();
+        Walk { plan: line.to_record(), events }
     }
 }
 
 impl Work for Walk {
     fn work<I: Interface>(&mut self) -> u64 {
-        let mut si = Situation::FRESH.to_bytes();
+        let (mut before, mut after) = (&mut [0; EVENT_ROOM], &mut [0; EVENT_ROOM]);
+        let mut length = SITUATION;
+        before[..length].copy_from_slice(&Situation::FRESH.to_record());
         let mut sum = 0;
-        for &[code, argument] in &self.events {
-            sum += u64::from(I::event(self.n, self.b, &mut si, code, argument));
+        for event in &self.events {
+            let returned = I::event(&self.plan, &before[..length], event, after);
+            sum += returned;
+            let told = told::Event::from(returned);
+            if told.refusal == 0 {
+                length = told.length;
+                std::mem::swap(&mut before, &mut after);
+            }
         }
-        sum
+        sum + before[..length].iter().map(|&byte| u64::from(byte)).sum::<u64>()
     }
 }
 
@@ -528,8 +508,8 @@ impl Work for AllAspects<'_> {
         let mut sum = 0;
         for _ in 0..Given::TIMES {
             for given in self.0 {
-                sum += u64::from(I::aspects(given.n, given.b, &given.si, &mut room));
-                sum += u64::from(room[1]) + u64::from(room[2 * usize::from(given.n) - 2]);
+                sum += u64::from(I::aspects(&given.plan, &given.situation, &mut room));
+                sum += u64::from(room[1]) + u64::from(room[2 * usize::from(given.plan[2]) - 2]);
             }
         }
         sum
@@ -543,7 +523,7 @@ impl Work for Readings<'_> {
         let mut sum = 0;
         for _ in 0..Given::TIMES {
             for given in self.0 {
-                sum += u64::from(I::reading(given.n, given.b, &given.si, given.kind, given.of));
+                sum += u64::from(I::reading(&given.plan, &given.situation, &given.reading));
             }
         }
         sum
@@ -571,7 +551,7 @@ impl Work for Runs<'_> {
         let mut sum = 0;
         for _ in 0..16 {
             for (bytes, slot) in self.0 {
-                sum += u64::from(I::run(bytes, slot));
+                sum += I::run(bytes, slot);
             }
         }
         sum

@@ -18,15 +18,19 @@ use std::time::Instant;
 use folvkin_compare::Library;
 #[cfg(bridged)]
 use folvkin_compare::bridge::Bridge;
+#[cfg(bridged)]
+use folvkin_compare::cases::Kept;
 use folvkin_compare::cases::{Case, Kind, Outcome, hex};
 use folvkin_compare::generate::{self, Search};
-use folvkin_compare::interface::Plain;
+use folvkin_compare::interface::{EVENT_ROOM, Plain};
 #[cfg(linked)]
 use folvkin_compare::lent::Lent;
 use folvkin_compare::lent::Placed;
 use folvkin_compare::plain::key::{SLOT, START};
-use folvkin_compare::plain::{Line, Question, Situation};
+use folvkin_compare::plain::records::{SITUATION, plan_record};
+use folvkin_compare::plain::{Event, Line, Question, Situation, events, readings};
 use folvkin_compare::random::Random;
+use folvkin_compare::told;
 
 /// How many differences of each kind are printed.
 const SHOWN: u64 = 5;
@@ -66,7 +70,7 @@ fn main() -> ExitCode {
     }
     comparison.finish();
     comparison.report(started.elapsed().as_secs_f64());
-    ExitCode::from(u8::from(comparison.differences != 0))
+    ExitCode::from(u8::from(comparison.differences() != 0))
 }
 
 fn usage() -> ExitCode {
@@ -83,18 +87,27 @@ struct Tally {
     refusals: [u64; 256],
 }
 
+/// Where the slices of a case lie: those that are read, then the room.
+type Places = [Placed; 4];
+
+/// What the plain implementation made of a case: what it returned, and its
+/// room after.
+struct ByPlain<'a> {
+    returned: u64,
+    room: &'a [u8],
+}
+
 /// Makes the library's calls, on guarded memory.
 #[cfg(linked)]
 struct Caller {
-    first: Lent,
-    second: Lent,
-    lent: Lent,
+    read: [Lent; 3],
+    room: Lent,
 }
 
 #[cfg(linked)]
 impl Caller {
     fn new() -> Caller {
-        Caller { first: Lent::new(4096), second: Lent::new(4096), lent: Lent::new(LARGEST_ROOM) }
+        Caller { read: std::array::from_fn(|_| Lent::new(4096)), room: Lent::new(LARGEST_ROOM) }
     }
 
     /// The outcome of the library's call if it is another than the plain one
@@ -102,31 +115,32 @@ impl Caller {
     fn other_outcome(
         &mut self,
         case: &Case,
-        placed: [Placed; 3],
-        by_plain: u64,
-        plain: &[u8],
+        [first, second, third, room]: Places,
+        by_plain: &ByPlain,
         looks_far: bool,
     ) -> Option<Outcome> {
-        let Caller { first, second, lent } = self;
-        first.lend(case.first, placed[0]);
-        second.lend(case.second, placed[1]);
-        lent.lend(case.lent, placed[2]);
-        let returned = case.call::<Library>(first.bytes(), second.bytes(), lent.bytes_mut());
-        let guarded = if looks_far {
-            first.is_wholly_guarded() && second.is_wholly_guarded() && lent.is_wholly_guarded()
-        } else {
-            first.is_guarded() && second.is_guarded() && lent.is_guarded()
-        };
-        let read_only = first.bytes() == case.first && second.bytes() == case.second;
-        if returned == by_plain && lent.bytes() == plain && guarded && read_only {
+        for ((lent, bytes), placed) in self.read.iter_mut().zip(case.read).zip([first, second, third]) {
+            lent.lend(bytes, placed);
+        }
+        self.room.lend(case.room, room);
+        let read = self.read.each_ref().map(Lent::bytes);
+        let returned = case.call::<Library>(read, self.room.bytes_mut());
+        let read_only = self.read.iter().zip(case.read).all(|(lent, bytes)| lent.bytes() == bytes);
+        let guarded = self.are_guarded(looks_far);
+        if returned == by_plain.returned && self.room.bytes() == by_plain.room && guarded && read_only {
             return None;
         }
-        let outcome = Outcome { returned, guarded, read_only, lent: lent.bytes().to_vec() };
+        let outcome = Outcome { returned, guarded, read_only, room: self.room.bytes().to_vec() };
         if !guarded {
             // Broken guards would be found again at every later case.
             *self = Caller::new();
         }
         Some(outcome)
+    }
+
+    fn are_guarded(&self, looks_far: bool) -> bool {
+        let mut lent = self.read.iter().chain([&self.room]);
+        if looks_far { lent.all(Lent::is_wholly_guarded) } else { lent.all(Lent::is_guarded) }
     }
 }
 
@@ -137,16 +151,12 @@ struct Caller {
     waiting: Vec<Waiting>,
 }
 
-/// A case that waits for the library's outcome.
+/// A case that waits for the library's outcome, and the plain one's.
 #[cfg(bridged)]
 struct Waiting {
-    kind: Kind,
-    numbers: [u32; 6],
-    first: Vec<u8>,
-    second: Vec<u8>,
-    lent: Vec<u8>,
-    by_plain: u64,
-    plain: Vec<u8>,
+    kept: Kept,
+    returned: u64,
+    room: Vec<u8>,
 }
 
 #[cfg(bridged)]
@@ -155,17 +165,10 @@ impl Caller {
         Caller { bridge: Bridge::start().expect("the bridge starts"), waiting: Vec::new() }
     }
 
-    fn push(&mut self, case: &Case, placed: [Placed; 3], by_plain: u64, plain: &[u8]) {
-        self.bridge.push(case, placed);
-        self.waiting.push(Waiting {
-            kind: case.kind,
-            numbers: case.numbers,
-            first: case.first.to_vec(),
-            second: case.second.to_vec(),
-            lent: case.lent.to_vec(),
-            by_plain,
-            plain: plain.to_vec(),
-        });
+    fn push(&mut self, case: &Case, places: Places, by_plain: &ByPlain) {
+        self.bridge.push(case, places);
+        let &ByPlain { returned, room } = by_plain;
+        self.waiting.push(Waiting { kept: Kept::new(case), returned, room: room.to_vec() });
     }
 }
 
@@ -174,13 +177,35 @@ struct Comparison {
     limit: u64,
     trace: bool,
     cases: u64,
-    differences: u64,
     tallies: [Tally; Kind::ALL.len()],
     library: Caller,
-    /// What the plain implementation's last call left in its memory.
+    /// What the plain implementation's last call left in its room.
     plain: Vec<u8>,
     /// Bytes to fill rooms with.
     noise: Vec<u8>,
+}
+
+/// Counts a difference and prints it if it is among the first of its kind.
+#[cold]
+fn difference(tallies: &mut [Tally], case: &Case, by_plain: &ByPlain, library: &Outcome) {
+    let tally = &mut tallies[case.kind as usize];
+    tally.differences += 1;
+    if tally.differences > SHOWN {
+        return;
+    }
+    println!("{case}\n  plain    {}", case.answer(by_plain.returned, by_plain.room));
+    println!("  library  {}", case.answer(library.returned, &library.room));
+    let bytes = library.room.iter().zip(by_plain.room).zip(case.room).enumerate();
+    let mut other = bytes.filter(|(_, ((library, plain), _))| library != plain);
+    if let Some((at, ((library, plain), before))) = other.next() {
+        println!("  byte {at} of the room: {before} before, plain {plain}, library {library}");
+    }
+    if !library.guarded {
+        println!("  guard bytes were changed");
+    }
+    if !library.read_only {
+        println!("  bytes lent for reading were changed");
+    }
 }
 
 impl Comparison {
@@ -193,7 +218,6 @@ impl Comparison {
             limit,
             trace,
             cases: 0,
-            differences: 0,
             tallies: [Tally { cases: 0, differences: 0, refusals: [0; 256] }; Kind::ALL.len()],
             library: Caller::new(),
             plain: Vec::with_capacity(LARGEST_ROOM),
@@ -210,33 +234,32 @@ impl Comparison {
     }
 
     /// Runs one case through both. What the plain implementation returns is
-    /// handed back; what it left in memory is in `plain`.
+    /// handed back; what it left in the room is in `plain`.
     fn check(&mut self, case: Case) -> u64 {
         self.plain.clear();
-        self.plain.extend_from_slice(case.lent);
+        self.plain.extend_from_slice(case.room);
         if self.cases >= self.limit {
             return 0;
         }
         if self.trace {
             println!("{case}");
         }
-        let placed = [self.placed(), self.placed(), self.placed()];
-        let by_plain = case.call::<Plain>(case.first, case.second, &mut self.plain);
+        let places = std::array::from_fn(|_| self.placed());
+        let returned = case.call::<Plain>(case.read, &mut self.plain);
         self.cases += 1;
         let tally = &mut self.tallies[case.kind as usize];
         tally.cases += 1;
-        tally.refusals[(by_plain & 255) as usize] += 1;
-        self.call_library(&case, placed, by_plain);
-        by_plain
+        tally.refusals[(returned & 255) as usize] += 1;
+        self.call_library(&case, places, returned);
+        returned
     }
 
     #[cfg(linked)]
-    fn call_library(&mut self, case: &Case, placed: [Placed; 3], by_plain: u64) {
+    fn call_library(&mut self, case: &Case, places: Places, returned: u64) {
         let looks_far = self.cases.is_multiple_of(65_536);
-        if let Some(outcome) = self.library.other_outcome(case, placed, by_plain, &self.plain, looks_far) {
-            let plain = std::mem::take(&mut self.plain);
-            self.difference(case, by_plain, &plain, &outcome);
-            self.plain = plain;
+        let by_plain = ByPlain { returned, room: &self.plain };
+        if let Some(outcome) = self.library.other_outcome(case, places, &by_plain, looks_far) {
+            difference(&mut self.tallies, case, &by_plain, &outcome);
         }
     }
 
@@ -244,8 +267,8 @@ impl Comparison {
     fn finish(&mut self) {}
 
     #[cfg(bridged)]
-    fn call_library(&mut self, case: &Case, placed: [Placed; 3], by_plain: u64) {
-        self.library.push(case, placed, by_plain, &self.plain);
+    fn call_library(&mut self, case: &Case, places: Places, returned: u64) {
+        self.library.push(case, places, &ByPlain { returned, room: &self.plain });
         if self.trace || self.library.bridge.is_full() {
             self.finish();
         }
@@ -263,50 +286,25 @@ impl Comparison {
                 std::process::exit(3);
             }
         };
-        for (waiting, outcome) in std::mem::take(&mut self.library.waiting).iter().zip(&outcomes) {
-            let same = outcome.returned == waiting.by_plain && outcome.lent == waiting.plain;
+        for (waiting, outcome) in self.library.waiting.drain(..).zip(&outcomes) {
+            let by_plain = ByPlain { returned: waiting.returned, room: &waiting.room };
+            let same = outcome.returned == by_plain.returned && outcome.room == by_plain.room;
             if !same || !outcome.guarded || !outcome.read_only {
-                let case = Case {
-                    kind: waiting.kind,
-                    numbers: waiting.numbers,
-                    first: &waiting.first,
-                    second: &waiting.second,
-                    lent: &waiting.lent,
-                };
-                self.difference(&case, waiting.by_plain, &waiting.plain, outcome);
+                difference(&mut self.tallies, &waiting.kept.case(), &by_plain, outcome);
             }
         }
     }
 
-    #[cold]
-    fn difference(&mut self, case: &Case, by_plain: u64, plain: &[u8], library: &Outcome) {
-        self.differences += 1;
-        let tally = &mut self.tallies[case.kind as usize];
-        tally.differences += 1;
-        if tally.differences > SHOWN {
-            return;
-        }
-        println!("{case}\n  plain    {}", case.answer(by_plain, plain));
-        println!("  library  {}", case.answer(library.returned, &library.lent));
-        let bytes = library.lent.iter().zip(plain).zip(case.lent).enumerate();
-        let mut other = bytes.filter(|(_, ((library, plain), _))| library != plain);
-        if let Some((at, ((library, plain), before))) = other.next() {
-            println!("  byte {at} of the lent memory: {before} before, plain {plain}, library {library}");
-        }
-        if !library.guarded {
-            println!("  guard bytes were changed");
-        }
-        if !library.read_only {
-            println!("  bytes lent for reading were changed");
-        }
+    fn differences(&self) -> u64 {
+        self.tallies.iter().map(|tally| tally.differences).sum()
     }
 
     fn report(&self, seconds: f64) {
-        for kind in Kind::ALL {
+        for &kind in Kind::ALL {
             let tally = &self.tallies[kind as usize];
             print!(
                 "{:<9} {:>10} cases, {} differences; accepted {}",
-                kind.name(),
+                kind.shape().word,
                 tally.cases,
                 tally.differences,
                 tally.refusals[0]
@@ -319,7 +317,7 @@ impl Comparison {
             println!();
         }
         println!("{seconds:.1} s");
-        println!("{} cases, {} differences", self.cases, self.differences);
+        println!("{} cases, {} differences", self.cases, self.differences());
     }
 
     /// A room of this length, with any bytes in it.
@@ -348,88 +346,137 @@ impl Comparison {
         }
     }
 
-    /// Every plan, every event code and argument, every kind and argument of
-    /// readings.
+    /// Every plan; every event and every reading on one situation, and one
+    /// event with every plan; every two letters.
     fn sweeps(&mut self) {
         let line = generate::line(&mut self.random);
-        let (n, b) = (line.sections(), line.frontier());
-        let si = generate::reached(&mut self.random, &line).to_bytes();
-        for high in 0..=255 {
-            for low in 0..=255 {
-                self.check(Case::plan(high, low));
-                self.check(Case::event(n, b, &si, high, low));
-                self.check(Case::reading(n, b, &si, high, low));
-                self.check(Case::event(high, low, &si, 5, 0));
+        let plan = line.to_record();
+        let situation = generate::reached(&mut self.random, &line).to_record();
+        let room = self.room(EVENT_ROOM);
+        for first in 0..=255 {
+            for second in 0..=255 {
+                let any_plan = plan_record(first, second);
+                self.check(Case::plan(&any_plan));
+                self.check(Case::event(&any_plan, &situation, &[events::DAFBL, 0], &room));
+                self.check(Case::event(&plan, &situation, &[first, second], &room));
+                self.check(Case::reading(&plan, &situation, &[first, second]));
+                self.check(Case::plan(&with_letters(plan, [first, second])));
+                self.check(Case::situation(&plan, &with_letters(situation, [first, second])));
+            }
+        }
+        self.lengths(&plan, &situation);
+        self.event_rooms(&plan, &situation);
+    }
+
+    /// Plan, situation, event and reading, each cut at every length or with
+    /// bytes left over, through all calls that take them.
+    fn lengths(&mut self, plan: &[u8], situation: &[u8]) {
+        let left_over = self.room(64);
+        let room = self.room(128);
+        let (event, reading) = ([events::DAFBL, 0], [5, 0]);
+        for length in 0..64 {
+            let other = |bytes: &[u8]| [bytes, &left_over].concat()[..length].to_vec();
+            let (other_plan, other_situation) = (other(plan), other(situation));
+            self.check(Case::plan(&other_plan));
+            for (plan, situation) in [(&other_plan[..], situation), (plan, &other_situation[..])] {
+                self.check(Case::situation(plan, situation));
+                self.check(Case::event(plan, situation, &event, &room));
+                self.check(Case::aspects(plan, situation, &room));
+                self.check(Case::reading(plan, situation, &reading));
+            }
+            self.check(Case::event(plan, situation, &other(&event), &room));
+            self.check(Case::reading(plan, situation, &other(&reading)));
+        }
+    }
+
+    /// Every room of up to 128 bytes, for an event that is accepted, one that
+    /// is refused, an unknown one, one with no such argument and one of three
+    /// bytes.
+    fn event_rooms(&mut self, plan: &[u8], situation: &[u8]) {
+        for length in 0..=128 {
+            let room = self.room(length);
+            // One of the first two is refused by 5, the other not.
+            let (on, off) = (events::REMINDER_ON, events::REMINDER_OFF);
+            for event in [&[on, 0][..], &[off, 0], &[0, 0], &[on, 2], &[on, 0, 0]] {
+                self.check(Case::event(plan, situation, event, &room));
             }
         }
     }
 
     fn plan(&mut self) {
-        let (n, b) = self.any_plan();
-        self.check(Case::plan(n, b));
-    }
-
-    /// A plan's bytes, now and then none.
-    fn any_plan(&mut self) -> (u8, u8) {
-        let r = &mut self.random;
-        let line = generate::line(r);
-        match r.below(24) {
-            0 => (generate::changed_byte(r, line.sections()), line.frontier()),
-            1 => (line.sections(), generate::changed_byte(r, line.frontier())),
-            _ => (line.sections(), line.frontier()),
-        }
+        let (plan, _) = generate::lent_plan(&mut self.random);
+        self.check(Case::plan(&plan));
     }
 
     /// A situation of any kind: is it sound, some events, its aspects, some
     /// readings.
     fn situation(&mut self) {
-        let (n, b) = self.any_plan();
         let r = &mut self.random;
-        let line = Line::new(n, b).unwrap_or_else(|_| generate::line(r));
-        let mut si = generate::situation_bytes(r, &line).to_vec();
-        // Now and then of another length.
-        if r.once_in(24) {
-            si.resize(r.index(41), 0);
-        }
-        self.check(Case::sound(n, b, &si));
+        let (plan, line) = generate::lent_plan(r);
+        let situation = generate::lent_situation(r, &line);
+        self.check(Case::situation(&plan, &situation));
         for _ in 0..4 {
-            let [code, argument] = generate::event_bytes(&mut self.random, &line);
-            self.check(Case::event(n, b, &si, code, argument));
+            let r = &mut self.random;
+            let event = generate::event_bytes(r, &line);
+            let event = generate::lent_pair(r, event);
+            let length = self.event_room_length();
+            let room = self.room(length);
+            self.check(Case::event(&plan, &situation, &event, &room));
         }
-        let length = match self.random.below(4) {
-            0 => self.random.index(65),
-            1 => (2 * usize::from(n)).saturating_sub(self.random.index(3)),
-            _ => 2 * usize::from(n) + self.random.index(3),
-        };
+        let length = self.aspects_room_length(&line);
         let room = self.room(length);
-        self.check(Case::aspects(n, b, &si, &room));
+        self.check(Case::aspects(&plan, &situation, &room));
         for _ in 0..2 {
-            let (kind, argument) = generate::reading_bytes(&mut self.random, &line);
-            self.check(Case::reading(n, b, &si, kind, argument));
+            let r = &mut self.random;
+            let reading = generate::reading_bytes(r, &line);
+            let reading = generate::lent_pair(r, reading);
+            self.check(Case::reading(&plan, &situation, &reading));
         }
     }
 
-    /// A walk over events that each go on from what the one before left.
+    fn event_room_length(&mut self) -> usize {
+        match self.random.below(12) {
+            0 => self.random.index(129),
+            1 => EVENT_ROOM - 1,
+            2 => EVENT_ROOM + 1,
+            3 => SITUATION + self.random.index(3) - 1,
+            _ => EVENT_ROOM,
+        }
+    }
+
+    fn aspects_room_length(&mut self, line: &Line) -> usize {
+        let needed = 2 * usize::from(line.sections());
+        match self.random.below(4) {
+            0 => self.random.index(65),
+            1 => needed - self.random.index(3),
+            _ => needed + self.random.index(3),
+        }
+    }
+
+    /// A walk over events: the records that one call wrote are the next one's
+    /// situation.
     fn walk_by_events(&mut self) {
         let line = generate::line(&mut self.random);
-        let (n, b) = (line.sections(), line.frontier());
-        let mut si = if self.random.once_in(2) {
-            Situation::FRESH.to_bytes()
-        } else {
-            generate::sound(&mut self.random, &line).to_bytes()
-        };
-        let room = self.room(2 * usize::from(n));
+        let plan = line.to_record();
+        let from =
+            if self.random.once_in(2) { Situation::FRESH } else { generate::sound(&mut self.random, &line) };
+        let mut situation = from.to_record().to_vec();
+        let event_room = self.room(EVENT_ROOM);
+        let aspects_room = self.room(2 * usize::from(line.sections()));
         for _ in 0..12 {
-            let event = generate::event(&mut self.random, &line);
-            self.check(Case::event(n, b, &si, event.code, event.argument));
-            si.copy_from_slice(&self.plain);
-            self.check(Case::aspects(n, b, &si, &room));
-            self.check(Case::sound(n, b, &si));
+            let event = generate::event(&mut self.random, &line).to_bytes();
+            let told = self.check(Case::event(&plan, &situation, &event, &event_room));
+            let told = told::Event::from(told);
+            if told.refusal == 0 && told.length != 0 {
+                situation = self.plain[..told.length].to_vec();
+            }
+            self.check(Case::aspects(&plan, &situation, &aspects_room));
+            self.check(Case::situation(&plan, &situation));
         }
     }
 
     fn number(&mut self) {
-        let numbers = generate::typed(&mut self.random);
+        let [kind, amount, speed, tolerance, unit, pattern] = generate::typed(&mut self.random);
         let length = match self.random.below(6) {
             0 => self.random.index(65),
             1 => 12,
@@ -437,7 +484,7 @@ impl Comparison {
             _ => 13,
         };
         let room = self.room(length);
-        self.check(Case::number(numbers, &room));
+        self.check(Case::mark(kind as u8, amount, speed, tolerance, unit as u8, pattern, &room));
     }
 
     fn room_length(&mut self) -> usize {
@@ -458,10 +505,9 @@ impl Comparison {
         self.check(Case::question(&bytes));
         // The first answers, to go on after.
         let mut answers = vec![0; 64 * SLOT];
-        let returned = self.check(Case::key(&bytes, &START, &answers));
-        let written = (returned >> 16) as usize * SLOT;
+        let told = told::Key::from(self.check(Case::key(&bytes, &START, &answers)));
         answers.copy_from_slice(&self.plain);
-        answers.truncate(written);
+        answers.truncate(told.count * SLOT);
         for _ in 0..3 {
             let after = generate::slot_bytes(&mut self.random, &question, &answers);
             let length = self.room_length();
@@ -485,12 +531,11 @@ impl Comparison {
         for _ in 0..40 {
             let length = slots * SLOT + self.random.index(SLOT);
             let room = self.room(length);
-            let returned = self.check(Case::key(bytes, &after, &room));
-            let written = (returned >> 16) as usize;
-            if returned & 255 != 0 || returned >> 8 & 255 == 0 || written == 0 || written > slots {
+            let told = told::Key::from(self.check(Case::key(bytes, &after, &room)));
+            if told.refusal != 0 || told.more == 0 || !(1..=slots).contains(&told.count) {
                 break;
             }
-            after.copy_from_slice(&self.plain[(written - 1) * SLOT..written * SLOT]);
+            after.copy_from_slice(&self.plain[(told.count - 1) * SLOT..told.count * SLOT]);
         }
     }
 
@@ -506,9 +551,8 @@ impl Comparison {
         }
         let bytes = generate::question_bytes(&question);
         let room = self.room(LARGEST_ROOM);
-        let returned = self.check(Case::key(&bytes, &START, &room));
-        let used = ((returned >> 16) as usize * SLOT).min(room.len());
-        let answers = self.plain[..used].to_vec();
+        let told = told::Key::from(self.check(Case::key(&bytes, &START, &room)));
+        let answers = self.plain[..told.count * SLOT].to_vec();
         for _ in 0..30 {
             let after = generate::slot_bytes(&mut self.random, &question, &answers);
             let length = self.room_length();
@@ -578,47 +622,58 @@ impl Comparison {
     /// Every situation in range of the plan 2, 1; on each sound one every
     /// event, all aspects and every reading.
     fn small_line(&mut self) {
-        let (n, b) = (2, 1);
-        let line = Line::new(n, b).expect("a plan");
-        let mut events = Vec::new();
-        for code in 1..=22 {
-            for argument in [0, 1, 2, 129] {
-                let event = folvkin_compare::plain::Event { code, argument };
-                if event.check(&line).is_ok() {
-                    events.push(event);
-                }
-            }
-        }
+        let line = Line::new(2, 1).expect("a plan");
+        let plan = line.to_record();
+        let asked = Asked::all(&line);
         // How many values each byte of a situation has.
         let values = [2u8, 3, 3, 3, 3, 3, 3, 2, 2, 3, 4, 4, 4, 4, 1, 2, 1, 2, 1];
-        let mut si = [0u8; 19];
+        let mut body = [0u8; 19];
         loop {
             // Bit 1 alone is a block signal towards B; towards A it is bit 0.
-            let mut bytes = si;
+            let mut bytes = body;
             bytes[15] *= 2;
-            let returned = self.check(Case::sound(n, b, &bytes));
-            if returned == 0 {
-                for event in &events {
-                    self.check(Case::event(n, b, &bytes, event.code, event.argument));
-                }
-                self.check(Case::aspects(n, b, &bytes, &[3; 5]));
-                for station in 0..2 {
-                    for kind in 2..=4 {
-                        self.check(Case::reading(n, b, &bytes, kind, station));
-                    }
-                }
-                self.check(Case::reading(n, b, &bytes, 5, 0));
-                for signal in [1, 2, 129, 130] {
-                    self.check(Case::reading(n, b, &bytes, 1, signal));
-                }
-            }
-            if returned > 2 {
-                println!("unexpected refusal {returned} of {}", hex(&bytes));
+            let situation = Situation::from_bytes(&bytes).to_record();
+            let returned = self.check(Case::situation(&plan, &situation));
+            match returned {
+                0 => self.ask(&plan, &situation, &asked),
+                2 => {}
+                _ => println!("unexpected refusal {returned} of {}", hex(&situation)),
             }
             // The next combination.
-            let Some(at) = (0..19).find(|&at| si[at] + 1 < values[at]) else { break };
-            si[..at].fill(0);
-            si[at] += 1;
+            let Some(at) = (0..19).find(|&at| body[at] + 1 < values[at]) else { break };
+            body[..at].fill(0);
+            body[at] += 1;
         }
     }
+
+    fn ask(&mut self, plan: &[u8], situation: &[u8], asked: &Asked) {
+        for event in &asked.events {
+            self.check(Case::event(plan, situation, event, &[3; EVENT_ROOM]));
+        }
+        self.check(Case::aspects(plan, situation, &[3; 5]));
+        for reading in &asked.readings {
+            self.check(Case::reading(plan, situation, reading));
+        }
+    }
+}
+
+/// Every event and every reading of a line.
+struct Asked {
+    events: Vec<[u8; 2]>,
+    readings: Vec<[u8; 2]>,
+}
+
+impl Asked {
+    fn all(line: &Line) -> Asked {
+        let pairs = || (0..=255).flat_map(|first| (0..=255).map(move |second| [first, second]));
+        let is_event = |&[code, argument]: &[u8; 2]| Event { code, argument }.check(line).is_ok();
+        let is_reading = |&[kind, argument]: &[u8; 2]| readings::greatest_value(line, kind, argument).is_ok();
+        Asked { events: pairs().filter(is_event).collect(), readings: pairs().filter(is_reading).collect() }
+    }
+}
+
+/// A record with other letters.
+fn with_letters<const N: usize>(mut record: [u8; N], letters: [u8; 2]) -> [u8; N] {
+    record[..2].copy_from_slice(&letters);
+    record
 }

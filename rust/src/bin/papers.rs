@@ -1,9 +1,15 @@
 //! Papers and their keys, by the plain implementation alone:
 //!
-//!     papers key HEX            prints what the key program prints
-//!     papers show HEX           prints the question as a description
-//!     papers write DESCRIPTION  prints the question in hex
+//!     papers key FILE           prints what the key program prints
+//!     papers show FILE          prints the question as a description
+//!     papers write DESCRIPTION  writes the question's bytes to standard output
 //!     papers search SEED TRIES  looks for papers with large keys
+//!
+//! A FILE has the bytes of a question. With `--hex` they are given in hex:
+//!
+//!     papers key --hex HEX
+//!     papers show --hex HEX
+//!     papers write --hex DESCRIPTION
 //!
 //! A description is made of parts with `;` between them (all but `plan` and
 //! `events` may be left out):
@@ -42,20 +48,7 @@ const READINGS: [&str; 5] = ["signal", "orientation", "annulment", "exit", "line
 fn main() -> ExitCode {
     let words: Vec<String> = std::env::args().skip(1).collect();
     let words: Vec<&str> = words.iter().map(String::as_str).collect();
-    let result = match words[..] {
-        ["key", text] => from_hex(text).ok_or("no hex".into()).map(|bytes| say(&key_text(&bytes))),
-        ["show", text] => from_hex(text).ok_or("no hex".into()).and_then(|bytes| show(&bytes)),
-        ["write", ref parts @ ..] if !parts.is_empty() => write_description(&parts.join(" ")),
-        ["search", seed, tries] => match (seed.parse(), tries.parse()) {
-            (Ok(seed), Ok(tries)) => {
-                search(seed, tries);
-                Ok(())
-            }
-            _ => Err("seed and tries are numbers".into()),
-        },
-        _ => Err("usage: papers key HEX | show HEX | write DESCRIPTION | search SEED TRIES".into()),
-    };
-    match result {
+    match command(&words) {
         Ok(()) => ExitCode::SUCCESS,
         Err(sentence) => {
             eprintln!("{sentence}");
@@ -64,9 +57,36 @@ fn main() -> ExitCode {
     }
 }
 
-/// Prints a text; a reader that has closed its end is no error.
-fn say(text: &str) {
-    let _ = std::io::stdout().write_all(text.as_bytes());
+fn command(words: &[&str]) -> Result<(), String> {
+    match *words {
+        ["key", ref paper @ ..] => say(key_text(&paper_given(paper)?).as_bytes()),
+        ["show", ref paper @ ..] => show(&paper_given(paper)?)?,
+        ["write", "--hex", ref parts @ ..] => say(format!("{}\n", hex(&written(parts)?)).as_bytes()),
+        ["write", ref parts @ ..] => say(&written(parts)?),
+        ["search", seed, tries] => match (seed.parse(), tries.parse()) {
+            (Ok(seed), Ok(tries)) => search(seed, tries),
+            _ => return Err("seed and tries are numbers".into()),
+        },
+        _ => return Err(USAGE.into()),
+    }
+    Ok(())
+}
+
+const USAGE: &str = "usage: papers key PAPER | show PAPER | write [--hex] DESCRIPTION | search SEED TRIES
+       PAPER is a file, or --hex and its bytes in hex";
+
+/// The bytes of the paper that the words name.
+fn paper_given(words: &[&str]) -> Result<Vec<u8>, String> {
+    match *words {
+        ["--hex", text] => from_hex(text).ok_or(format!("{text} is no hex")),
+        [file] => std::fs::read(file).map_err(|error| format!("{file}: {error}")),
+        _ => Err(USAGE.into()),
+    }
+}
+
+/// Writes to standard output; a reader that has closed its end is no error.
+fn say(bytes: &[u8]) {
+    let _ = std::io::stdout().write_all(bytes);
 }
 
 fn number_of(text: &str) -> Result<u8, String> {
@@ -77,69 +97,95 @@ fn number_of(text: &str) -> Result<u8, String> {
     }
 }
 
-fn write_description(text: &str) -> Result<(), String> {
-    let mut plan = None;
-    let mut situation = Situation::FRESH;
-    let mut events = Vec::new();
-    let mut readings = Vec::new();
-    let mut length = 0;
-    for part in text.split(';').map(str::trim).filter(|part| !part.is_empty()) {
-        let (name, rest) = part.split_once(' ').unwrap_or((part, ""));
+/// The bytes of the question that is described. Its refusal goes to standard
+/// error.
+fn written(words: &[&str]) -> Result<Vec<u8>, String> {
+    let bytes = Description::read(&words.join(" "))?.to_bytes()?;
+    let refusal = number(Question::read(&bytes));
+    if refusal != 0 {
+        eprintln!("refused {refusal}");
+    }
+    Ok(bytes)
+}
+
+struct Description {
+    plan: Option<(u8, u8)>,
+    situation: Situation,
+    events: Vec<[u8; 2]>,
+    readings: Vec<[u8; 3]>,
+    length: u8,
+}
+
+impl Description {
+    fn read(text: &str) -> Result<Description, String> {
+        let mut description = Description {
+            plan: None,
+            situation: Situation::FRESH,
+            events: Vec::new(),
+            readings: Vec::new(),
+            length: 0,
+        };
+        for part in text.split(';').map(str::trim).filter(|part| !part.is_empty()) {
+            let (name, rest) = part.split_once(' ').unwrap_or((part, ""));
+            description.read_part(name, rest)?;
+        }
+        Ok(description)
+    }
+
+    fn read_part(&mut self, name: &str, rest: &str) -> Result<(), String> {
         match name {
             "plan" => {
                 let numbers: Vec<u8> = rest.split_whitespace().map(number_of).collect::<Result<_, _>>()?;
                 let [n, b] = numbers[..] else { return Err("a plan has two numbers".into()) };
-                plan = Some((n, b));
+                self.plan = Some((n, b));
             }
             "situation" => {
-                for field in rest.split_whitespace() {
-                    set_field(&mut situation, field)?;
-                }
+                rest.split_whitespace().try_for_each(|field| set_field(&mut self.situation, field))?;
             }
             "events" => {
                 for event in rest.split(',') {
-                    let mut words = event.split_whitespace();
-                    let name = words.next().unwrap_or("");
-                    let code = match EVENTS.iter().position(|&known| known == name) {
-                        Some(index) => index as u8 + 1,
-                        None => number_of(name)?,
-                    };
-                    events.push([code, words.next().map_or(Ok(0), number_of)?]);
+                    self.events.push(coded(event, &EVENTS)?);
                 }
             }
             "readings" => {
                 for reading in rest.split(',') {
                     let (asked, value) = reading.split_once('=').ok_or("a reading has a value after =")?;
-                    let mut words = asked.split_whitespace();
-                    let name = words.next().unwrap_or("");
-                    let kind = match READINGS.iter().position(|&known| known == name) {
-                        Some(index) => index as u8 + 1,
-                        None => number_of(name)?,
-                    };
-                    readings.push([kind, words.next().map_or(Ok(0), number_of)?, number_of(value.trim())?]);
+                    let [kind, argument] = coded(asked, &READINGS)?;
+                    self.readings.push([kind, argument, number_of(value.trim())?]);
                 }
             }
-            "length" => length = number_of(rest.trim())?,
+            "length" => self.length = number_of(rest.trim())?,
             _ => return Err(format!("{name} is no part of a description")),
         }
+        Ok(())
     }
-    let (sections, frontier) = plan.ok_or("a description has a plan")?;
-    let parts = Parts {
-        sections,
-        frontier,
-        situation: situation.to_bytes(),
-        events: &events,
-        readings: &readings,
-        length,
+
+    fn to_bytes(&self) -> Result<Vec<u8>, String> {
+        let (sections, frontier) = self.plan.ok_or("a description has a plan")?;
+        let parts = Parts {
+            sections,
+            frontier,
+            situation: self.situation.to_bytes(),
+            events: &self.events,
+            readings: &self.readings,
+            length: self.length,
+        };
+        let mut bytes = vec![0; parts.byte_length()];
+        parts.write_unchecked(&mut bytes);
+        Ok(bytes)
+    }
+}
+
+/// A name of the list, or its number from 1, and an argument, 0 if there is
+/// none.
+fn coded(text: &str, names: &[&str]) -> Result<[u8; 2], String> {
+    let mut words = text.split_whitespace();
+    let name = words.next().unwrap_or("");
+    let code = match names.iter().position(|&known| known == name) {
+        Some(index) => index as u8 + 1,
+        None => number_of(name)?,
     };
-    let mut bytes = vec![0; parts.byte_length()];
-    parts.write_unchecked(&mut bytes);
-    println!("{}", hex(&bytes));
-    let refusal = number(Question::read(&bytes));
-    if refusal != 0 {
-        eprintln!("refused {refusal}");
-    }
-    Ok(())
+    Ok([code, words.next().map_or(Ok(0), number_of)?])
 }
 
 fn set_field(situation: &mut Situation, field: &str) -> Result<(), String> {
@@ -264,9 +310,9 @@ fn search(seed: u64, tries: u64) {
     let mut start = generate::sound_or_reached(&mut r, &line);
     let mut events: Vec<[u8; 2]> = Vec::new();
     let other_event = |r: &mut Random, events: &[[u8; 2]]| loop {
-        let event = generate::event(r, &line);
-        if !events.contains(&[event.code, event.argument]) {
-            break [event.code, event.argument];
+        let event = generate::event(r, &line).to_bytes();
+        if !events.contains(&event) {
+            break event;
         }
     };
     while events.len() < 12 {
@@ -305,7 +351,8 @@ fn search(seed: u64, tries: u64) {
     let print = |question: &Question| {
         let bytes = generate::question_bytes(question);
         let parts = Parts::split(&bytes).expect("a question");
-        say(&format!("{} sequences: {}\n{}\n", size(question), description(&parts), hex(&bytes)));
+        let text = format!("{} sequences: {}\n{}\n", size(question), description(&parts), hex(&bytes));
+        say(text.as_bytes());
     };
     print(&paper(&start, &events, &[], 5));
     let mut readings = Vec::new();

@@ -43,6 +43,10 @@ fn refuse_if(so: bool, refusal: Refusal) -> Applied {
 }
 
 impl Event {
+    pub fn to_bytes(self) -> [u8; 2] {
+        [self.code, self.argument]
+    }
+
     /// 3 an unknown code, then 4 an argument out of range.
     #[inline]
     pub fn check(self, line: &Line) -> Applied {

@@ -10,6 +10,7 @@ pub mod line;
 pub mod marking;
 pub mod question;
 pub mod readings;
+pub mod records;
 pub mod refusal;
 pub mod run;
 pub mod situation;

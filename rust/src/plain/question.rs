@@ -1,6 +1,6 @@
 //! A question: five records, each after its two letters, in one byte form.
 
-use super::{Event, Line, Reading, Refusal, Situation, situation};
+use super::{Event, Line, Reading, Refusal, Situation, records, situation};
 
 pub const MOST_EVENTS: usize = 12;
 pub const MOST_READINGS: usize = 6;
@@ -29,28 +29,6 @@ pub struct Question {
     length: u8,
 }
 
-/// Takes `N` bytes off the front.
-#[inline]
-fn take<'a, const N: usize>(bytes: &mut &'a [u8]) -> Result<&'a [u8; N], Refusal> {
-    let (taken, rest) = bytes.split_first_chunk::<N>().ok_or(Refusal::Form)?;
-    *bytes = rest;
-    Ok(taken)
-}
-
-/// Takes a record's mark off the front.
-#[inline]
-fn mark(bytes: &mut &[u8], letters: &[u8; 2]) -> Result<(), Refusal> {
-    if take::<2>(bytes)? == letters { Ok(()) } else { Err(Refusal::Form) }
-}
-
-/// Takes `count` items of `N` bytes each.
-#[inline]
-fn items<'a, const N: usize>(bytes: &mut &'a [u8], count: usize) -> Result<&'a [[u8; N]], Refusal> {
-    let (taken, rest) = bytes.split_at_checked(count * N).ok_or(Refusal::Form)?;
-    *bytes = rest;
-    Ok(taken.as_chunks::<N>().0)
-}
-
 /// Whether an event is listed twice, of events in range: codes up to 22,
 /// arguments up to 16 or from 129 to 144.
 #[inline]
@@ -72,27 +50,23 @@ impl<'a> Parts<'a> {
     #[inline]
     pub fn split(bytes: &'a [u8]) -> Result<Parts<'a>, Refusal> {
         let rest = &mut { bytes };
-        mark(rest, b"LB")?;
-        let &[sections, frontier] = take::<2>(rest)?;
-        mark(rest, b"SI")?;
-        let &situation = take::<{ situation::LENGTH }>(rest)?;
-        mark(rest, b"EV")?;
-        let &[count] = take::<1>(rest)?;
+        let &[sections, frontier] = records::plan(rest)?;
+        let &situation = records::situation(rest)?;
+        records::letters(rest, b"EV")?;
+        let &[count] = records::take(rest)?;
         if !(1..=MOST_EVENTS).contains(&usize::from(count)) {
             return Err(Refusal::Form);
         }
-        let events = items::<2>(rest, usize::from(count))?;
-        mark(rest, b"RD")?;
-        let &[count] = take::<1>(rest)?;
+        let events = records::items(rest, usize::from(count))?;
+        records::letters(rest, b"RD")?;
+        let &[count] = records::take(rest)?;
         if usize::from(count) > MOST_READINGS {
             return Err(Refusal::Form);
         }
-        let readings = items::<3>(rest, usize::from(count))?;
-        mark(rest, b"LN")?;
-        let &[length] = take::<1>(rest)?;
-        if !rest.is_empty() {
-            return Err(Refusal::Form);
-        }
+        let readings = records::items(rest, usize::from(count))?;
+        records::letters(rest, b"LN")?;
+        let &[length] = records::take(rest)?;
+        records::end(rest)?;
         Ok(Parts { sections, frontier, situation, events, readings, length })
     }
 
@@ -143,7 +117,7 @@ impl<'a> Parts<'a> {
 
     /// How many bytes the question takes.
     pub fn byte_length(&self) -> usize {
-        4 + 2 + situation::LENGTH + 3 + 2 * self.events.len() + 3 + 3 * self.readings.len() + 3
+        records::PLAN + records::SITUATION + 3 + 2 * self.events.len() + 3 + 3 * self.readings.len() + 3
     }
 
     /// Writes the byte form of any parts, accepted or not, into just enough
@@ -154,10 +128,8 @@ impl<'a> Parts<'a> {
             room[at..at + bytes.len()].copy_from_slice(bytes);
             at += bytes.len();
         };
-        put(b"LB");
-        put(&[self.sections, self.frontier]);
-        put(b"SI");
-        put(&self.situation);
+        put(&records::plan_record(self.sections, self.frontier));
+        put(&records::situation_record(&self.situation));
         put(b"EV");
         put(&[self.events.len() as u8]);
         put(self.events.as_flattened());
@@ -179,7 +151,7 @@ impl Question {
     pub fn write(&self, room: &mut [u8]) -> Result<usize, Refusal> {
         let mut events = [[0; 2]; MOST_EVENTS];
         for (bytes, event) in events.iter_mut().zip(self.events()) {
-            *bytes = [event.code, event.argument];
+            *bytes = event.to_bytes();
         }
         let mut readings = [[0; 3]; MOST_READINGS];
         for (bytes, reading) in readings.iter_mut().zip(self.readings()) {

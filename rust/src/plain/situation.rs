@@ -14,7 +14,7 @@ pub const AFBLE: u8 = 2;
 pub const NORMAL: u8 = 1;
 pub const SPECIAL: u8 = 2;
 
-/// The length of record SI without its mark.
+/// The length of record SI without its letters.
 pub const LENGTH: usize = 19;
 
 /// Pairs are indexed by station. `bilc`, `bslg` and `reminder` have bit 0 for

@@ -1,5 +1,5 @@
 -- Exploring a situation and trying its events, each by the other's promise. In the cycle the remaining length falls, in the loop over the events the places that are left. The loop's invariant: what the events from here on put into the room gives what all of them give.
-use Prim.Native.Nat.{ℕ, _≤_, _<_, _+_, _-_, _*_, _/_}
+use Prim.Native.Nat.{ℕ, _≤_, _<_, _+_, _-_, _*_}
 use mathlib.Core.Path.{_≡_, refl, sym, ap, _∙_}
 use mathlib.Core.Logic.{⊎-elim}
 use mathlib.Core.Bool.{Bool, false}
@@ -14,7 +14,11 @@ use Rattle.keylaws.specs.Walk.{tries, walk}
 use Rattle.keylaws.specs.Sheet.{grow, grows, put}
 use Rattle.keylaws.proofs.WalkSteps.{try-none, try-refused, try-full, try-on, node-leaf, node-full, node-on}
 use Rattle.block.specs.Situation.{Situation}
+use Rattle.block.specs.declared.event.Event.{Event}
+use Rattle.block.specs.declared.reading.Reading.{Reading}
 use Rattle.situation.specs.Packed.{unpacked}
+use Rattle.records.specs.InBytes.{events-in, readings-in}
+use Rattle.records.proofs.InBytes.{events-counted}
 use Rattle.rules.specs.RulesOf.{tried, rulesOf}
 use denote.Ref.{now}
 use Rattle.engine.specs.Walked.{ends, explored}
@@ -32,7 +36,7 @@ use Rattle.engine.proofs.own_answer.Reads as own-answer-reads
 use Rattle.engine.proofs.start_of.Reads as start-of-reads
 use Rattle.events.proofs.next.Reads as next-reads
 use Rattle.events.proofs.own_refusal.Reads as own-refusal-reads
-use Rattle.rules.proofs.tries.event_at.Reads as event-at-reads
+use Rattle.records.proofs.lists.event_at.Reads as event-at-reads
 use Rattle.rules.proofs.EachEvent.{tried-refusal, tried-next}
 use Rattle.slots.proofs.room.grow_slot.Reads as grow-slot-reads
 use Rattle.slots.proofs.room.put_slot.Reads as put-slot-reads
@@ -64,17 +68,17 @@ abbrev explore-calls : ℕ → explore-lts.Claims
 explore-calls t = (own-answer-reads.Asked, own-answer-reads.Learnt, attempt-below t, attempt.Post)
 
 -- what the events from a place on put into the room
-abbrev written : Situation → Ask → List ℕ → List ℕ → List ℕ → ℕ → ℕ → Bool → ℕ → Part → Part
+abbrev written : Situation → Ask → List Event → List Reading → List ℕ → ℕ → ℕ → Bool → ℕ → Part → Part
 written x ask events readings slot depth left on place o =
     let R = rulesOf (ask .plan) events readings in
-    put o (map (grows slot depth) (tries R (walk R (left - 1) (drop (depth + 1 + 1) (ask .from))) x on place (length events / 2 + 1 - place)))
+    put o (map (grows slot depth) (tries R (walk R (left - 1) (drop (depth + 1 + 1) (ask .from))) x on place (length events + 1 - place)))
 
 abbrev attempt-Inv-loop : attempt-lts.InvT-loop
 attempt-Inv-loop x ask events readings room₀ n slot depth left on₀ place₀ count₀ room on place count =
     (1 ≤ place)
     × (6 * count ≤ length room)
     × (length room ≡ length room₀)
-    × (written (unpacked x) ask events readings slot depth left on place (handed room count false) ≡ written (unpacked x) ask events readings slot depth left on₀ place₀ (handed room₀ count₀ false))
+    × (written (unpacked x) ask (events-in events) (readings-in readings) slot depth left on place (handed room count false) ≡ written (unpacked x) ask (events-in events) (readings-in readings) slot depth left on₀ place₀ (handed room₀ count₀ false))
 
 abbrev attempt-μ-loop : attempt-lts.MeasureT-loop
 attempt-μ-loop x ask events readings room₀ n slot depth left on₀ place₀ count₀ room on place count = n + 1 - place
@@ -107,16 +111,18 @@ attempt-returns : (t : ℕ) → attempt-lts.Need-returns (attempt-calls t) (atte
 attempt-returns t c =
     let s = c .before .before .before .before .before .before .before .before .before .before .before .before .before .before .before .before .before .before .before .before in
     let a = s .args in
+    let es = events-in (now (a .events)) in
+    let rs = readings-in (now (a .readings)) in
     let l = c .before .before .before .before .before .before .before .before .before .before .before .before .before .loop in
     let is = c .before .before .before .before .before .before .before .before .before .before .before .event-at .ensures in
-    let within : 2 * l .place ≤ length (now (a .events)) = omega (arith, c .before .before .before .before .before .before .before .before .before .before .before .before .loop-test .taken) in
-    let told = tried-refusal (a .ask .plan) (unpacked (a .x)) (now (a .events)) (l .place) is (l .inv .0) within (s .pre .1 .1 .1 .0) (c .before .before .before .before .before .before .before .before .before .before .own-refusal .ensures) in
+    let within : l .place ≤ length es = omega (arith, events-counted (now (a .events)), c .before .before .before .before .before .before .before .before .before .before .before .before .loop-test .taken) in
+    let told = tried-refusal (a .ask .plan) (unpacked (a .x)) es (l .place) is (l .inv .0) within (s .pre .1 .1 .1 .0) (c .before .before .before .before .before .before .before .before .before .before .own-refusal .ensures) in
     let accepted = sym told ∙ c .before .before .before .before .before .before .before .before .before .if1 .taken in
-    let leads = tried-next (a .ask .plan) (unpacked (a .x)) (now (a .events)) (l .place) is accepted in
-    let y = tried (a .ask .plan) (now (a .events)) (unpacked (a .x)) (l .place) .next in (
+    let leads = tried-next (a .ask .plan) (unpacked (a .x)) es (l .place) is accepted in
+    let y = tried (a .ask .plan) es (unpacked (a .x)) (l .place) .next in (
       rw (← c .before .before .before .before .before .before .before .before .before .before .before .before .before .before .start-of .ensures .0, ← c .before .before .before .before .before .before .before .before .before .before .before .before .before .before .start-of .ensures .1 .0)
-          (try-full _ _ _ _ _ _ _ _ y (c .before .before .before .before .before .grow-slot .result) _ _ _ (c .before .before .before .before .before .before .before .before .before .before .before .before .loop-test .taken) (eq-eqb _ 0 accepted) refl (c .before .before .before .before .before .grow-slot .ensures)
-          (last-one (rulesOf (a .ask .plan) (now (a .events)) (now (a .readings))) (l .on) (a .ask .from) (a .at .depth + 1) y _ _ _ _ (omega (arith, c .before .before .before .before .before .before .before .before .if2 .taken)) _ _ _ (sym (c .before .before .before .before .before .before .before .ends-answer .ensures ∙ ap (ends (l .on) (a .ask .plan) (now (a .readings))) (leads refl)) ∙ c .before .before .before .before .before .before .if3 .taken) (c .before .before .before .put-slot .ensures .0))
+          (try-full _ _ _ _ _ _ _ _ y (c .before .before .before .before .before .grow-slot .result) _ _ _ within (eq-eqb _ 0 accepted) refl (c .before .before .before .before .before .grow-slot .ensures)
+          (last-one (rulesOf (a .ask .plan) es rs) (l .on) (a .ask .from) (a .at .depth + 1) y _ _ _ _ (omega (arith, c .before .before .before .before .before .before .before .before .if2 .taken)) _ _ _ (sym (c .before .before .before .before .before .before .before .ends-answer .ensures ∙ ap (ends (l .on) (a .ask .plan) rs) (leads refl)) ∙ c .before .before .before .before .before .before .if3 .taken) (c .before .before .before .put-slot .ensures .0))
           (c .if4 .taken) ∙ l .inv .3),
       c .before .before .before .put-slot .ensures .1,
     )
@@ -146,17 +152,19 @@ attempt-returns-2 : (t : ℕ) → attempt-lts.Need-returns-2 (attempt-calls t) (
 attempt-returns-2 t c =
     let s = c .before .before .before .before .before .before .before .before .before .before .before .before .before .before .before .before .before .before .before in
     let a = s .args in
+    let es = events-in (now (a .events)) in
+    let rs = readings-in (now (a .readings)) in
     let l = c .before .before .before .before .before .before .before .before .before .before .before .before .loop in
     let is = c .before .before .before .before .before .before .before .before .before .before .event-at .ensures in
-    let within : 2 * l .place ≤ length (now (a .events)) = omega (arith, c .before .before .before .before .before .before .before .before .before .before .before .loop-test .taken) in
-    let told = tried-refusal (a .ask .plan) (unpacked (a .x)) (now (a .events)) (l .place) is (l .inv .0) within (s .pre .1 .1 .1 .0) (c .before .before .before .before .before .before .before .before .before .own-refusal .ensures) in
+    let within : l .place ≤ length es = omega (arith, events-counted (now (a .events)), c .before .before .before .before .before .before .before .before .before .before .before .loop-test .taken) in
+    let told = tried-refusal (a .ask .plan) (unpacked (a .x)) es (l .place) is (l .inv .0) within (s .pre .1 .1 .1 .0) (c .before .before .before .before .before .before .before .before .before .own-refusal .ensures) in
     let accepted = sym told ∙ c .before .before .before .before .before .before .before .before .if1 .taken in
-    let leads = tried-next (a .ask .plan) (unpacked (a .x)) (now (a .events)) (l .place) is accepted in
-    let y = tried (a .ask .plan) (now (a .events)) (unpacked (a .x)) (l .place) .next in
+    let leads = tried-next (a .ask .plan) (unpacked (a .x)) es (l .place) is accepted in
+    let y = tried (a .ask .plan) es (unpacked (a .x)) (l .place) .next in
     let node : Node = record { slot = c .before .before .before .before .before .before .grow-slot2 .result; depth = a .at .depth + 1; left = a .at .left - 1; on = l .on; count = l .count } in (
       rw (← c .before .before .before .before .before .before .before .before .before .before .before .before .before .start-of .ensures .0, ← c .before .before .before .before .before .before .before .before .before .before .before .before .before .start-of .ensures .1 .0)
-          (try-full _ _ _ _ _ _ _ _ y (c .before .before .before .before .before .before .grow-slot2 .result) _ _ _ (c .before .before .before .before .before .before .before .before .before .before .before .loop-test .taken) (eq-eqb _ 0 accepted) refl (c .before .before .before .before .before .before .grow-slot2 .ensures)
-          (c .before .before .before .explore .ensures .0 ∙ ap (λ (s : Situation). explored (a .ask) (now (a .events)) (now (a .readings)) s node (l .room)) (leads (c .before .before .before .before .before .next .ensures)))
+          (try-full _ _ _ _ _ _ _ _ y (c .before .before .before .before .before .before .grow-slot2 .result) _ _ _ within (eq-eqb _ 0 accepted) refl (c .before .before .before .before .before .before .grow-slot2 .ensures)
+          (c .before .before .before .explore .ensures .0 ∙ ap (λ (s : Situation). explored (a .ask) es rs s node (l .room)) (leads (c .before .before .before .before .before .next .ensures)))
           (c .if5 .taken) ∙ l .inv .3),
       c .before .before .before .explore .ensures .1,
     )
@@ -171,20 +179,22 @@ attempt-loop-again : (t : ℕ) → attempt-lts.Need-loop-again (attempt-calls t)
 attempt-loop-again t c =
     let s = c .before .before .before .before .before .before .before .before .before .before .before in
     let a = s .args in
+    let es = events-in (now (a .events)) in
+    let rs = readings-in (now (a .readings)) in
     let l = c .before .before .before .before .loop in
     let is = c .before .before .event-at .ensures in
-    let within : 2 * l .place ≤ length (now (a .events)) = omega arith in
-    let told = tried-refusal (a .ask .plan) (unpacked (a .x)) (now (a .events)) (l .place) is (l .inv .0) within (s .pre .1 .1 .1 .0) (c .before .own-refusal .ensures) in
+    let within : l .place ≤ length es = omega (arith, events-counted (now (a .events))) in
+    let told = tried-refusal (a .ask .plan) (unpacked (a .x)) es (l .place) is (l .inv .0) within (s .pre .1 .1 .1 .0) (c .before .own-refusal .ensures) in
     let r = c .before in
-    let y = tried (a .ask .plan) (now (a .events)) (unpacked (a .x)) (l .place) .next in
+    let y = tried (a .ask .plan) es (unpacked (a .x)) (l .place) .next in
     ⊎-elim
     (λ v. (
       omega arith,
       rw (v .10, v .11) (v .6 .ensures .1),
       rw (v .10) (omega (arith, l .inv .2)),
       rw (v .10, v .11)
-          (try-on _ _ _ _ _ _ _ _ y (v .4 .result) _ _ _ (c .before .before .before .loop-test .taken) (eq-eqb _ 0 (sym told ∙ v .0 .taken)) refl (v .4 .ensures)
-          (last-one (rulesOf (a .ask .plan) (now (a .events)) (now (a .readings))) (l .on) (a .ask .from) (a .at .depth + 1) y _ _ _ _ (omega (arith, v .1 .taken)) _ _ _ (sym (v .2 .ensures ∙ ap (ends (l .on) (a .ask .plan) (now (a .readings))) (tried-next (a .ask .plan) (unpacked (a .x)) (now (a .events)) (l .place) is (sym told ∙ v .0 .taken) refl)) ∙ v .3 .taken) (v .6 .ensures .0))
+          (try-on _ _ _ _ _ _ _ _ y (v .4 .result) _ _ _ within (eq-eqb _ 0 (sym told ∙ v .0 .taken)) refl (v .4 .ensures)
+          (last-one (rulesOf (a .ask .plan) es rs) (l .on) (a .ask .from) (a .at .depth + 1) y _ _ _ _ (omega (arith, v .1 .taken)) _ _ _ (sym (v .2 .ensures ∙ ap (ends (l .on) (a .ask .plan) rs) (tried-next (a .ask .plan) (unpacked (a .x)) es (l .place) is (sym told ∙ v .0 .taken) refl)) ∙ v .3 .taken) (v .6 .ensures .0))
           _ (v .9 .left) refl ∙ l .inv .3),
     ))
     (⊎-elim
@@ -193,8 +203,8 @@ attempt-loop-again t c =
       rw (v .4, v .5) (l .inv .1),
       rw (v .4) (l .inv .2),
       rw (v .4, v .5)
-          (try-on _ _ _ _ _ _ _ _ y (grow (a .at .slot) (a .at .depth) (l .place)) _ _ _ (c .before .before .before .loop-test .taken) (eq-eqb _ 0 (sym told ∙ v .0 .taken)) refl refl
-          (last-none (rulesOf (a .ask .plan) (now (a .events)) (now (a .readings))) (l .on) (a .ask .from) (a .at .depth + 1) y (grow (a .at .slot) (a .at .depth) (l .place)) _ _ _ (omega (arith, v .1 .taken)) (sym (v .2 .ensures ∙ ap (ends (l .on) (a .ask .plan) (now (a .readings))) (tried-next (a .ask .plan) (unpacked (a .x)) (now (a .events)) (l .place) is (sym told ∙ v .0 .taken) refl)) ∙ v .3 .left))
+          (try-on _ _ _ _ _ _ _ _ y (grow (a .at .slot) (a .at .depth) (l .place)) _ _ _ within (eq-eqb _ 0 (sym told ∙ v .0 .taken)) refl refl
+          (last-none (rulesOf (a .ask .plan) es rs) (l .on) (a .ask .from) (a .at .depth + 1) y (grow (a .at .slot) (a .at .depth) (l .place)) _ _ _ (omega (arith, v .1 .taken)) (sym (v .2 .ensures ∙ ap (ends (l .on) (a .ask .plan) rs) (tried-next (a .ask .plan) (unpacked (a .x)) es (l .place) is (sym told ∙ v .0 .taken) refl)) ∙ v .3 .left))
           _ refl refl ∙ l .inv .3),
     ))
     (⊎-elim
@@ -204,11 +214,11 @@ attempt-loop-again t c =
       rw (v .9, v .10) (v .5 .ensures .1),
       rw (v .9) (omega (arith, l .inv .2)),
       rw (v .9, v .10)
-          (try-on _ _ _ _ _ _ _ _ y (v .2 .result) _ _ _ (c .before .before .before .loop-test .taken) (eq-eqb _ 0 (sym told ∙ v .0 .taken)) refl (v .2 .ensures)
-          (v .5 .ensures .0 ∙ ap (λ (s : Situation). explored (a .ask) (now (a .events)) (now (a .readings)) s node (l .room)) (tried-next (a .ask .plan) (unpacked (a .x)) (now (a .events)) (l .place) is (sym told ∙ v .0 .taken) (v .3 .ensures)))
+          (try-on _ _ _ _ _ _ _ _ y (v .2 .result) _ _ _ within (eq-eqb _ 0 (sym told ∙ v .0 .taken)) refl (v .2 .ensures)
+          (v .5 .ensures .0 ∙ ap (λ (s : Situation). explored (a .ask) es rs s node (l .room)) (tried-next (a .ask .plan) (unpacked (a .x)) es (l .place) is (sym told ∙ v .0 .taken) (v .3 .ensures)))
           _ (v .8 .left) refl ∙ l .inv .3),
     ))
-    (λ v. (omega arith, rw (v .1, v .2) (l .inv .1), rw (v .1) (l .inv .2), rw (v .1, v .2) (try-refused _ _ _ _ _ _ _ _ _ (c .before .before .before .loop-test .taken) (ne-eqb _ 0 (λ z. v .0 .left (told ∙ z))) refl ∙ l .inv .3)))))
+    (λ v. (omega arith, rw (v .1, v .2) (l .inv .1), rw (v .1) (l .inv .2), rw (v .1, v .2) (try-refused _ _ _ _ _ _ _ _ _ within (ne-eqb _ 0 (λ z. v .0 .left (told ∙ z))) refl ∙ l .inv .3)))))
     (c .if1 .came)
 
 attempt-same-length-3 : (t : ℕ) → attempt-lts.Need-same-length-3 (attempt-calls t) (attempt-at t) attempt.Post attempt-Inv-loop attempt-μ-loop
@@ -217,7 +227,7 @@ attempt-same-length-3 t c = omega arith
 attempt-returns-3 : (t : ℕ) → attempt-lts.Need-returns-3 (attempt-calls t) (attempt-at t) attempt.Post attempt-Inv-loop attempt-μ-loop
 attempt-returns-3 t c =
     let l = c .before in
-    (rw (← l .before .start-of .ensures .0, ← l .before .start-of .ensures .1 .0) (try-none _ _ _ _ _ _ _ _ (c .loop-test .left) ∙ l .loop .inv .3), l .loop .inv .1)
+    (rw (← l .before .start-of .ensures .0, ← l .before .start-of .ensures .1 .0) (try-none _ _ _ _ _ _ _ _ (omega (arith, events-counted (now (l .before .before .before .before .before .before .before .args .events)), c .loop-test .left)) ∙ l .loop .inv .3), l .loop .inv .1)
 
 explore-own-answer-requires : (t : ℕ) → explore-lts.Need-own-answer-requires (explore-calls t) (explore-at t) explore.Post
 explore-own-answer-requires t c κs =

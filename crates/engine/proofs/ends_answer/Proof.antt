@@ -1,6 +1,7 @@
 use mathlib.Core.Path.{sym, ap, _∙_}
 use denote.Ref.{now}
 use borrow.Author.Needs.{needs}
+use Rattle.records.specs.InBytes.{readings-in}
 use Rattle.rules.specs.RulesOf.{all-hold}
 use Rattle.rules.proofs.ReadingSteps.{hold-end}
 use Rattle.engine.proofs.ends_answer.Statement.{statement}
@@ -9,7 +10,7 @@ use Rattle.engine.proofs.ends_answer.Tie as tie
 returns-3 : tie.Need-returns-3
 returns-3 c =
     let a = c .before .before .before .before .before .args in
-    rw (c .before .before .before .if1 .left) (c .all-hold .ensures ∙ ap (all-hold (a .ask .plan) (now (a .readings))) (c .before .next .ensures))
+    rw (c .before .before .before .if1 .left) (c .all-hold .ensures ∙ ap (all-hold (a .ask .plan) (readings-in (now (a .readings)))) (c .before .next .ensures))
 
 pub ends-answer-spec : {M : Type 1} → statement M
 ends-answer-spec =

@@ -2,8 +2,8 @@ use mathlib.Core.Path.{sym, _∙_}
 use native.Mathlib.Omega.{arith}
 use borrow.Author.Needs.{needs}
 use borrow.Author.Tests.{not-true, not-false}
-use Rattle.records.specs.Form.{counted}
-use Rattle.records.proofs.Forms.{product, stands-long, list-stands}
+use Rattle.records.specs.Sizes.{counted}
+use Rattle.records.proofs.Fronts.{product, stands-long, list-stands}
 use Rattle.records.proofs.form.counted.Statement.{statement}
 use Rattle.records.proofs.form.counted.Tie as tie
 

@@ -10,6 +10,8 @@ use denote.Ref.{now}
 use Rattle.keylaws.specs.Run.{Outcome, runFrom, run, stopped}
 use Rattle.block.specs.Situation.{Kept}
 use Rattle.situation.specs.Packed.{unpacked}
+use Rattle.records.specs.InBytes.{events-in, readings-in}
+use Rattle.records.proofs.InBytes.{events-counted}
 use Rattle.rules.specs.RulesOf.{rulesOf}
 use Rattle.rules.proofs.RunSteps.{run-end, run-step}
 use Rattle.rules.proofs.EachEvent.{tried-refusal, tried-next}
@@ -18,7 +20,7 @@ use Rattle.rules.proofs.run.run_places.Tie as tie
 
 abbrev Inv-loop : tie.InvT-loop
 Inv-loop plan events readings places x₀ i₀ x i =
-    (i ≤ length places) × (runFrom (rulesOf plan events readings) (unpacked x) (i + 1) (drop i places) ≡ run (rulesOf plan events readings) (unpacked x₀) places)
+    (i ≤ length places) × (runFrom (rulesOf plan (events-in events) (readings-in readings)) (unpacked x) (i + 1) (drop i places) ≡ run (rulesOf plan (events-in events) (readings-in readings)) (unpacked x₀) places)
 
 abbrev μ-loop : tie.MeasureT-loop
 μ-loop plan events readings places x₀ i₀ x i = length places - i
@@ -27,13 +29,13 @@ loop-again : tie.Need-loop-again Inv-loop μ-loop
 loop-again c =
     let s = c .before .before .before .before .before .before .before .before .before .before in
     let a = s .args in
-    let R = rulesOf (a .plan) (now (a .events)) (now (a .readings)) in
+    let R = rulesOf (a .plan) (events-in (now (a .events))) (readings-in (now (a .readings))) in
     let l = c .before .before .before .before .before .before .loop in
     let place = getD (now (a .places)) (l .i) 0 in
     let on : Kept → Outcome = λ y. runFrom R y (l .i + 1 + 1) (drop (l .i + 1) (now (a .places))) in
     let permitted = s .pre .0 .1 (l .i) (omega arith) in
-    let accepted = sym (tried-refusal (a .plan) (unpacked (l .x)) (now (a .events)) place (c .before .before .before .event-at .ensures) (permitted .0) (omega (arith, permitted .1)) (s .pre .1 .0) (c .before .before .own-refusal .ensures)) ∙ c .before .if2 .left in
-    (omega arith, sym (sym (l .inv .1) ∙ run-step R (unpacked (l .x)) (now (a .places)) (l .i) (omega arith) ∙ ap (λ (v : Bool). cond v (on (R .next (unpacked (l .x)) place)) (stopped (l .i + 1) (R .refusal (unpacked (l .x)) place))) (eq-eqb _ 0 accepted) ∙ ap on (sym (tried-next (a .plan) (unpacked (l .x)) (now (a .events)) place (c .before .before .before .event-at .ensures) accepted (c .next .ensures)))))
+    let accepted = sym (tried-refusal (a .plan) (unpacked (l .x)) (events-in (now (a .events))) place (c .before .before .before .event-at .ensures) (permitted .0) (permitted .1) (s .pre .1 .0) (c .before .before .own-refusal .ensures)) ∙ c .before .if2 .left in
+    (omega arith, sym (sym (l .inv .1) ∙ run-step R (unpacked (l .x)) (now (a .places)) (l .i) (omega arith) ∙ ap (λ (v : Bool). cond v (on (R .next (unpacked (l .x)) place)) (stopped (l .i + 1) (R .refusal (unpacked (l .x)) place))) (eq-eqb _ 0 accepted) ∙ ap on (sym (tried-next (a .plan) (unpacked (l .x)) (events-in (now (a .events))) place (c .before .before .before .event-at .ensures) accepted (c .next .ensures)))))
 
 returns : tie.Need-returns Inv-loop μ-loop
 returns c = rw (c .all-hold .ensures) (sym (sym (c .before .before .before .loop .inv .1) ∙ run-end _ _ _ _ (omega arith)))
@@ -44,7 +46,7 @@ returns-2 c =
     let a = s .args in
     let l = c .before .before .before .before .before .loop in
     let permitted = s .pre .0 .1 (l .i) (omega arith) in
-    let told = tried-refusal (a .plan) (unpacked (l .x)) (now (a .events)) (getD (now (a .places)) (l .i) 0) (c .before .before .event-at .ensures) (permitted .0) (omega (arith, permitted .1)) (s .pre .1 .0) (c .before .own-refusal .ensures) in
+    let told = tried-refusal (a .plan) (unpacked (l .x)) (events-in (now (a .events))) (getD (now (a .places)) (l .i) 0) (c .before .before .event-at .ensures) (permitted .0) (permitted .1) (s .pre .1 .0) (c .before .own-refusal .ensures) in
     sym (sym (l .inv .1) ∙ run-step _ _ _ _ (omega arith) ∙ rw (ne-eqb _ 0 (λ z. c .if2 .taken (told ∙ z)), told) refl)
 
 pub run-places-spec : {M : Type 1} → statement M
@@ -58,7 +60,7 @@ run-places-spec =
     (λ c κs. (c .before .before .before .before .before .before .pre .1 .1, c .wanted-of .ensures))
     (λ c. search needs)
     (λ c. omega (arith, c .shared-slice-known4 .given (c .before .before .loop .i)))
-    (λ c κs. omega (arith, c .before .before .before .before .before .before .pre .0 .1 (c .before .before .loop .i) (omega arith)))
+    (λ c κs. let s = c .before .before .before .before .before .before in omega (arith, s .pre .0 .1 (c .before .before .loop .i) (omega arith), events-counted (now (s .args .events))))
     (λ c κs. search needs)
     (λ c. search needs)
     (λ c. search needs)

@@ -3,7 +3,7 @@ use denote.Ref.{now}
 use borrow.Author.Needs.{needs}
 use borrow.Author.Tests.{eq-eqb, ne-eqb, not-true, not-false}
 use Rattle.situation.specs.Packed.{unpacked}
-use Rattle.rules.proofs.ReadingSteps.{rest-of}
+use Rattle.records.proofs.InBytes.{part-from}
 use Rattle.rules.proofs.ReadingsTogether.{aspects-within, all-hold-is}
 use Rattle.rules.proofs.wanted.all_hold.Statement.{statement}
 use Rattle.rules.proofs.wanted.all_hold.Tie as tie
@@ -22,7 +22,7 @@ returns-3 : tie.Need-returns-3
 returns-3 c =
     let i = c .before .before in
     let a = i .before .before .before .before in
-    sym (all-hold-is _ (a .args .x) _ _ (a .pre .1) ∙ rw (sym (i .before .before .as-wanted .ensures) ∙ not-false _ (i .before .if1 .left), ne-eqb _ _ (i .if2 .left)) (sym (c .aspects-hold .ensures ∙ rw rest-of)))
+    sym (all-hold-is _ (a .args .x) _ _ (a .pre .1) ∙ rw (sym (i .before .before .as-wanted .ensures) ∙ not-false _ (i .before .if1 .left), ne-eqb _ _ (i .if2 .left)) (sym (c .aspects-hold .ensures ∙ rw part-from)))
 
 pub all-hold-spec : {M : Type 1} → statement M
 all-hold-spec =

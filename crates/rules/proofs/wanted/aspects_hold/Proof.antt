@@ -5,13 +5,15 @@ use lib.ListN.{length}
 use borrow.Author.Needs.{needs}
 use borrow.Author.Tests.{eq-eqb, ne-eqb}
 use Rattle.situation.specs.Packed.{unpacked}
+use Rattle.records.specs.InBytes.{readings-in}
+use Rattle.records.proofs.InBytes.{part-from}
 use Rattle.rules.specs.Wanted.{aspects-hold}
-use Rattle.rules.proofs.ReadingSteps.{rest-of, aspects-step, aspects-end}
+use Rattle.rules.proofs.ReadingSteps.{aspects-step, aspects-end}
 use Rattle.rules.proofs.wanted.aspects_hold.Statement.{statement}
 use Rattle.rules.proofs.wanted.aspects_hold.Tie as tie
 
 abbrev Inv-loop : tie.InvT-loop
-Inv-loop plan x readings rest₀ rest = aspects-hold plan rest (unpacked x) ≡ aspects-hold plan readings (unpacked x)
+Inv-loop plan x readings rest₀ rest = aspects-hold plan (readings-in rest) (unpacked x) ≡ aspects-hold plan (readings-in readings) (unpacked x)
 
 abbrev μ-loop : tie.MeasureT-loop
 μ-loop plan x readings rest₀ rest = length rest
@@ -26,7 +28,7 @@ loop-again : tie.Need-loop-again Inv-loop μ-loop
 loop-again c =
     let l = c .before .before .before in
     let whole = sym (l .before .loop .inv) ∙ aspects-step _ _ _ (l .loop-test .taken) in
-    rw rest-of
+    rw part-from
     (⊎-elim
     (λ v. sym (whole ∙ rw (eq-eqb _ _ (v .0 .taken), eq-eqb _ _ (sym (v .2 .ensures) ∙ v .4 .left))))
     (λ v. sym (whole ∙ rw (ne-eqb _ _ (v .left))))

@@ -2,8 +2,9 @@
 use mathlib.Core.Path.{_≡_, refl, sym, _∙_}
 use lib.ListN.{length}
 use borrow.Author.Needs.{needs}
+use Rattle.records.proofs.InBytes.{part-from}
 use Rattle.rules.specs.Wanted.{with-readings, wanted-of}
-use Rattle.rules.proofs.ReadingSteps.{rest-of, want-step, want-end}
+use Rattle.rules.proofs.ReadingSteps.{want-step, want-end}
 use Rattle.rules.proofs.wanted.wanted_of.Statement.{statement}
 use Rattle.rules.proofs.wanted.wanted_of.Tie as tie
 
@@ -16,7 +17,7 @@ abbrev μ-loop : tie.MeasureT-loop
 loop-again : tie.Need-loop-again Inv-loop μ-loop
 loop-again c =
     let b = c .before .before .before .before .before in
-    rw (rest-of, c .before .with-reading .ensures) (sym (want-step _ _ (b .loop-test .taken)) ∙ b .before .loop .inv)
+    rw (part-from, c .before .with-reading .ensures) (sym (want-step _ _ (b .loop-test .taken)) ∙ b .before .loop .inv)
 
 pub wanted-of-spec : {M : Type 1} → statement M
 wanted-of-spec =

@@ -5,4 +5,4 @@ use Rattle.situation.proofs.Situation.afble.Statement.{statement}
 use Rattle.situation.proofs.Situation.afble.Tie as tie
 
 pub afble-spec : {M : Type 1} → statement M
-afble-spec = tie.close (tie.spec (λ c κs. search needs) (λ c κs. search needs) (λ c. c .cleared .ensures ∙ ap (withPending nobody) (c .before .annul .ensures)))
+afble-spec = tie.close (tie.spec (λ c κs. search needs) (λ c κs. search needs) (λ c. c .settled .ensures ∙ ap (withPending nobody) (c .before .annul .ensures)))

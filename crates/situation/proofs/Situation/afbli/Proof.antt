@@ -5,4 +5,4 @@ use Rattle.situation.proofs.Situation.afbli.Statement.{statement}
 use Rattle.situation.proofs.Situation.afbli.Tie as tie
 
 pub afbli-spec : {M : Type 1} → statement M
-afbli-spec = tie.close (tie.spec (λ c κs. search needs) (λ c κs. search needs) (λ c. c .cleared .ensures ∙ ap (withPending nobody) (c .before .annul .ensures)))
+afbli-spec = tie.close (tie.spec (λ c κs. search needs) (λ c κs. search needs) (λ c. c .settled .ensures ∙ ap (withPending nobody) (c .before .annul .ensures)))

@@ -14,7 +14,7 @@ returns c =
     let a = c .before .before .before .before .before .before .before .before .before .before .before .args in
     let x = unpacked (a .self) in
     let y : Situation = withPending nobody (taken (place (a .at) x) x) in
-    c .reoriented .ensures ∙ ap (reoriented out inward) (c .before .before .before .before .before .before .before .before .cleared .ensures ∙ ap (withPending nobody) (c .before .before .before .before .before .before .before .before .before .taken .ensures))
+    c .reoriented .ensures ∙ ap (reoriented out inward) (c .before .before .before .before .before .before .before .before .settled .ensures ∙ ap (withPending nobody) (c .before .before .before .before .before .before .before .before .before .taken .ensures))
     ∙ ap (λ (v : Bool). reoriented-where v out inward y) (sym (ap₂ _and_ (ap₂ _and_ (sym (c .before .before .before .before .before .before .is-first .ensures)) (ap _is-in (sym (c .before .before .before .before .own .ensures)) ∙ sym (c .before .before .before .is-in .ensures))) (sym (c .before .before .line-free .ensures)) ∙ ap (λ (v : Bool). v and c .before .before .before .is-in .result and c .before .before .line-free .result) (c .before .before .before .before .before .if1 .taken) ∙ c .before .if2 .taken))
 
 returns-2 : tie.Need-returns-2
@@ -22,7 +22,7 @@ returns-2 c =
     let a = c .before .before .before .before .before .before .before .before .before .before .args in
     let x = unpacked (a .self) in
     let y : Situation = withPending nobody (taken (place (a .at) x) x) in
-    c .before .before .before .before .before .before .before .cleared .ensures ∙ ap (withPending nobody) (c .before .before .before .before .before .before .before .before .taken .ensures)
+    c .before .before .before .before .before .before .before .settled .ensures ∙ ap (withPending nobody) (c .before .before .before .before .before .before .before .before .taken .ensures)
     ∙ ap (λ (v : Bool). reoriented-where v out inward y) (sym (ap₂ _and_ (ap₂ _and_ (sym (c .before .before .before .before .before .is-first .ensures)) (ap _is-in (sym (c .before .before .before .own .ensures)) ∙ sym (c .before .before .is-in .ensures))) (sym (c .before .line-free .ensures)) ∙ ap (λ (v : Bool). v and c .before .before .is-in .result and c .before .line-free .result) (c .before .before .before .before .if1 .taken) ∙ c .if2 .left))
 
 returns-3 : tie.Need-returns-3
@@ -30,7 +30,7 @@ returns-3 c =
     let a = c .before .before .before .before .before .before .args in
     let x = unpacked (a .self) in
     let y : Situation = withPending nobody (taken (place (a .at) x) x) in
-    c .before .before .before .cleared .ensures ∙ ap (withPending nobody) (c .before .before .before .before .taken .ensures)
+    c .before .before .before .settled .ensures ∙ ap (withPending nobody) (c .before .before .before .before .taken .ensures)
     ∙ ap (λ (v : Bool). reoriented-where v out inward y) (sym (ap (λ (v : Bool). v and (x .traffic .own is-in) and line-free x) (sym (c .before .is-first .ensures) ∙ c .if1 .left)))
 
 pub occupied-spec : {M : Type 1} → statement M

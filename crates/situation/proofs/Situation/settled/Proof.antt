@@ -1,6 +1,6 @@
 use mathlib.Core.Path.{refl, sym, ap, ap₂, _∙_}
 use mathlib.Core.Bool.{Bool}
-use Rattle.words.specs.Words.{if_then_else_}
+use Rattle.words.specs.Words.{_or_, if_then_else_}
 use Rattle.block.specs.Situation.{nobody, withPending}
 use Rattle.situation.specs.Packed.{unpacked}
 use borrow.Author.Needs.{needs}
@@ -13,5 +13,5 @@ settled-spec =
     (tie.spec
     (λ c κs. search needs)
     (λ c κs. search needs)
-    (λ c. let y = unpacked (c .before .before .before .args .self) in c .with-pending .ensures ∙ ap (λ (v : Bool). withPending (if v then nobody else y .traffic .pending) y) (sym (sym (c .before .before .orientation-change .ensures) ∙ c .before .if1 .taken)))
-    (λ c. let y = unpacked (c .before .before .args .self) in ap (λ (v : Bool). withPending (if v then nobody else y .traffic .pending) y) (sym (sym (c .before .orientation-change .ensures) ∙ c .if1 .left))))
+    (λ c. let y = unpacked (c .before .before .before .args .self) in c .with-pending .ensures ∙ ap (λ (v : Bool). withPending (if v then nobody else y .traffic .pending) y) (sym (ap (λ (v : Bool). c .before .before .before .args .always or v) (sym (c .before .before .orientation-change .ensures)) ∙ c .before .if1 .taken)))
+    (λ c. let y = unpacked (c .before .before .args .self) in ap (λ (v : Bool). withPending (if v then nobody else y .traffic .pending) y) (sym (ap (λ (v : Bool). c .before .before .args .always or v) (sym (c .before .orientation-change .ensures)) ∙ c .if1 .left))))

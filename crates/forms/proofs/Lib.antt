@@ -1,0 +1,14 @@
+pub mod Reading
+pub mod Lettered
+pub mod Simple
+pub mod Sequence
+pub mod Choice
+pub mod LeftOut
+pub mod Lists
+pub mod Fields
+pub mod Whole
+pub mod Sizes
+pub mod Bounded
+pub mod Taken
+pub mod InTurn
+pub mod WholeTaken

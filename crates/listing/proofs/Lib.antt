@@ -1,3 +1,0 @@
-pub mod Steps
-pub mod EventsApart
-pub mod RightLists

@@ -1,0 +1,2 @@
+pub mod EventsApart
+pub mod RightLists

@@ -1,0 +1,10 @@
+pub mod CountedItems
+pub mod Laid
+pub mod WritingTells
+pub mod AcceptedQuestions
+pub mod ReadFound
+pub mod WrittenIsRead
+pub mod OneForm
+pub mod PartsAreRefused
+pub mod NoSituation
+pub mod Longest

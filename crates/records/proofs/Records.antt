@@ -1,0 +1,60 @@
+-- How many bytes each record takes, as the code finds it. Assumes nothing.
+use Prim.Native.Nat.{ℕ, _+_}
+use mathlib.Core.Path.{_≡_}
+use mathlib.Core.List.{List}
+use Rattle.forms.specs.Form.{Form}
+use Rattle.forms.specs.Compose.{byte, _⊗_, section}
+use Rattle.forms.specs.Laws.{Lawful}
+use Rattle.forms.specs.Taken.{taken}
+use Rattle.forms.proofs.Simple.{byte-law}
+use Rattle.forms.proofs.Fields.{section-law}
+use Rattle.forms.proofs.Sizes.{Bytes, Takes, byte-takes, section-takes, sequence-takes, named-takes}
+use Rattle.records.specs.Plan.{LB, plan-of, plan-parts, plan}
+use Rattle.records.specs.Situation.{SI, pair, body, codes-made, code-parts, situation}
+use Rattle.records.specs.Lists.{EV, RD, LN, event-of, event-parts, one-event, events, reading-of, reading-parts, one-reading, readings, answer-length}
+use Rattle.records.specs.Sizes.{fixed, counted}
+use Rattle.records.proofs.RecordLaws.{pair-law, event-law, reading-law, plan-body-law, codes-law}
+use Rattle.records.proofs.Fronts.{fixed-taken, list-taken}
+
+infixr 30 _&&_
+abbrev _&&_ : {A B : Type 0} {m n : ℕ} {F : Form A} {G : Form B} → Lawful F × Takes m F → Takes n G → Takes (m + n) (F ⊗ G)
+K && L = sequence-takes (K .0) (K .1) L
+
+abbrev a-byte : Lawful byte × Takes 1 byte
+a-byte = (byte-law, byte-takes)
+
+abbrev a-pair : Lawful pair × Takes 2 pair
+a-pair = (pair-law, a-byte && byte-takes)
+
+abbrev a-field : Lawful (section 2) × Takes 2 (section 2)
+a-field = (section-law 2, section-takes 2)
+
+pub plan-taken : (s : List ℕ) → Bytes s → taken plan s ≡ fixed LB 2 s
+unfolding plan
+plan-taken s b = fixed-taken LB plan-body-law (named-takes plan-of plan-parts (a-byte && byte-takes)) s b
+
+body-takes : Takes 19 body
+body-takes =
+    a-byte && a-pair && a-pair && a-pair && a-pair && a-byte && a-byte && a-byte && a-byte && a-field && a-field && section-takes 2
+
+pub situation-taken : (s : List ℕ) → Bytes s → taken situation s ≡ fixed SI 19 s
+unfolding situation
+situation-taken s b = fixed-taken SI codes-law (named-takes codes-made code-parts body-takes) s b
+
+event-takes : Takes 2 one-event
+event-takes = named-takes event-of event-parts (a-byte && byte-takes)
+
+pub events-taken : (s : List ℕ) → Bytes s → taken events s ≡ counted EV 1 12 2 s
+unfolding events
+events-taken s b = list-taken EV 1 12 event-law event-takes s b
+
+reading-takes : Takes 3 one-reading
+reading-takes = named-takes reading-of reading-parts (a-byte && a-byte && byte-takes)
+
+pub readings-taken : (s : List ℕ) → Bytes s → taken readings s ≡ counted RD 0 6 3 s
+unfolding readings
+readings-taken s b = list-taken RD 0 6 reading-law reading-takes s b
+
+pub length-taken : (s : List ℕ) → Bytes s → taken answer-length s ≡ fixed LN 1 s
+unfolding answer-length
+length-taken s b = fixed-taken LN byte-law byte-takes s b

@@ -1,0 +1,53 @@
+-- A reader need not believe this file: records as the code has them, in bytes. proofs/InBytes shows that they are what the forms write.
+use Prim.Native.Nat.{ℕ, _-_}
+use mathlib.Core.List.{List, [], _∷_}
+use lib.ListN.{take, drop, getD}
+use Rattle.block.specs.Apply.{event}
+use Rattle.block.specs.declared.line.Plan.{Plan}
+use Rattle.block.specs.declared.event.Event.{Event}
+use Rattle.block.specs.declared.reading.Reading.{Reading}
+use Rattle.forms.specs.Compose.{section}
+use Rattle.forms.specs.Taken.{value}
+use Rattle.records.specs.Situation.{Codes}
+
+-- events of two bytes, one after the other
+unfoldable pub events-in : List ℕ → List Event
+events-in [] = []
+events-in (c ∷ []) = []
+events-in (c ∷ a ∷ s) = event c a ∷ events-in s
+
+-- readings of three bytes
+unfoldable pub readings-in : List ℕ → List Reading
+readings-in [] = []
+readings-in (k ∷ []) = []
+readings-in (k ∷ a ∷ []) = []
+readings-in (k ∷ a ∷ v ∷ s) = record { kind = k; argument = a; value = v } ∷ readings-in s
+
+-- the section field of so many bytes that stands at a byte
+abbrev pub field-at : ℕ → List ℕ → ℕ → ℕ
+field-at width s at = value 0 (section width) (drop at s)
+
+-- the codes of a record SI
+unfoldable pub codes-at : List ℕ → Codes
+codes-at s = record {
+  link = getD s 2 0;
+  orientation = (getD s 3 0, getD s 4 0);
+  annulment = (getD s 5 0, getD s 6 0);
+  exit = (getD s 7 0, getD s 8 0);
+  entry = (getD s 9 0, getD s 10 0);
+  pending = getD s 11 0;
+  bilc = getD s 12 0;
+  bslg = getD s 13 0;
+  reminder = getD s 14 0;
+  occupied = field-at 2 s 15;
+  heldb = field-at 2 s 17;
+  helda = field-at 2 s 19;
+}
+
+-- the plan of a record LB
+abbrev pub plan-at : List ℕ → Plan
+plan-at s = record { sections = getD s 2 0; frontier = getD s 3 0 }
+
+-- the bytes from one place up to another
+abbrev pub part : ℕ → ℕ → List ℕ → List ℕ
+part from to s = take (to - from) (drop from s)

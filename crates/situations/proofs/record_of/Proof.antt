@@ -1,0 +1,43 @@
+-- Byte by byte: each is what the call for it ensures, of what the words say. Assumes nothing.
+use Prim.Native.Nat.{ℕ, _/_, _%_}
+use mathlib.Core.Path.{_≡_, refl, ap, ap₂, _∙_}
+use mathlib.Core.List.{List, _∷_}
+use Rattle.words.specs.Words.{flag}
+use Rattle.block.specs.Situation.{Station}
+use Rattle.block.specs.Codes.{code, orientation-code, annulment-code, route-code}
+use Rattle.records.specs.Situation.{bits, field-of, codes-of, situation}
+use borrow.Author.Needs.{needs}
+use Rattle.situations.proofs.record_of.Statement.{statement}
+use Rattle.situations.proofs.record_of.Tie as tie
+
+-- a list that begins with the same byte, and goes on with the same bytes
+infixr 20 _then_
+_then_ : {a b : ℕ} {s t : List ℕ} → a ≡ b → s ≡ t → (a ∷ s) ≡ (b ∷ t)
+e then f = ap₂ _∷_ e f
+
+returns : tie.Need-returns
+unfolding situation codes-of
+returns c =
+    refl then refl then
+    (c .before .before .before .before .before .before .before .before .before .before .before .before .before .before .before .before .before .before .before .before .before .before .before .before .before .before .before .before .before .before .before .before .flag .ensures .0 ∙ ap flag (c .before .before .before .before .before .before .before .before .before .before .before .before .before .before .before .before .before .before .before .before .before .before .before .before .before .before .before .before .before .before .before .before .before .linked .ensures)) then
+    (c .before .before .before .before .before .before .before .before .before .before .before .before .before .before .before .before .before .before .before .before .before .before .before .before .before .before .before .before .before .before .code .ensures ∙ ap orientation-code (c .before .before .before .before .before .before .before .before .before .before .before .before .before .before .before .before .before .before .before .before .before .before .before .before .before .before .before .before .before .before .before .orientation .ensures ∙ ap (λ (t : Station). t .orientation) (c .before .before .before .before .before .before .before .before .before .before .before .before .before .before .before .before .before .before .before .before .before .before .before .before .before .before .before .before .before .before .before .before .before .before .before .before .before .before .before .before .own .ensures))) then
+    (c .before .before .before .before .before .before .before .before .before .before .before .before .before .before .before .before .before .before .before .before .before .before .before .before .before .before .before .before .code2 .ensures ∙ ap orientation-code (c .before .before .before .before .before .before .before .before .before .before .before .before .before .before .before .before .before .before .before .before .before .before .before .before .before .before .before .before .before .orientation2 .ensures ∙ ap (λ (t : Station). t .orientation) (c .before .before .before .before .before .before .before .before .before .before .before .before .before .before .before .before .before .before .before .before .before .before .before .before .before .before .before .before .before .before .before .before .before .before .before .before .before .before .before .other .ensures))) then
+    (c .before .before .before .before .before .before .before .before .before .before .before .before .before .before .before .before .before .before .before .before .before .before .before .before .before .before .code3 .ensures ∙ ap annulment-code (c .before .before .before .before .before .before .before .before .before .before .before .before .before .before .before .before .before .before .before .before .before .before .before .before .before .before .before .annulment .ensures ∙ ap (λ (t : Station). t .annulment) (c .before .before .before .before .before .before .before .before .before .before .before .before .before .before .before .before .before .before .before .before .before .before .before .before .before .before .before .before .before .before .before .before .before .before .before .before .before .before .before .before .own .ensures))) then
+    (c .before .before .before .before .before .before .before .before .before .before .before .before .before .before .before .before .before .before .before .before .before .before .before .before .code4 .ensures ∙ ap annulment-code (c .before .before .before .before .before .before .before .before .before .before .before .before .before .before .before .before .before .before .before .before .before .before .before .before .before .annulment2 .ensures ∙ ap (λ (t : Station). t .annulment) (c .before .before .before .before .before .before .before .before .before .before .before .before .before .before .before .before .before .before .before .before .before .before .before .before .before .before .before .before .before .before .before .before .before .before .before .before .before .before .before .other .ensures))) then
+    (c .before .before .before .before .before .before .before .before .before .before .before .before .before .before .before .before .before .before .before .before .before .before .code5 .ensures ∙ ap route-code (c .before .before .before .before .before .before .before .before .before .before .before .before .before .before .before .before .before .before .before .before .before .before .before .exit-route .ensures ∙ ap (λ (t : Station). t .exit) (c .before .before .before .before .before .before .before .before .before .before .before .before .before .before .before .before .before .before .before .before .before .before .before .before .before .before .before .before .before .before .before .before .before .before .before .before .before .before .before .before .own .ensures))) then
+    (c .before .before .before .before .before .before .before .before .before .before .before .before .before .before .before .before .before .before .before .before .code6 .ensures ∙ ap route-code (c .before .before .before .before .before .before .before .before .before .before .before .before .before .before .before .before .before .before .before .before .before .exit-route2 .ensures ∙ ap (λ (t : Station). t .exit) (c .before .before .before .before .before .before .before .before .before .before .before .before .before .before .before .before .before .before .before .before .before .before .before .before .before .before .before .before .before .before .before .before .before .before .before .before .before .before .before .other .ensures))) then
+    (c .before .before .before .before .before .before .before .before .before .before .before .before .before .before .before .before .before .before .flag2 .ensures .0 ∙ ap flag (c .before .before .before .before .before .before .before .before .before .before .before .before .before .before .before .before .before .before .before .has-entry .ensures ∙ ap (λ (t : Station). t .entry) (c .before .before .before .before .before .before .before .before .before .before .before .before .before .before .before .before .before .before .before .before .before .before .before .before .before .before .before .before .before .before .before .before .before .before .before .before .before .before .before .before .own .ensures))) then
+    (c .before .before .before .before .before .before .before .before .before .before .before .before .before .before .before .before .flag3 .ensures .0 ∙ ap flag (c .before .before .before .before .before .before .before .before .before .before .before .before .before .before .before .before .before .has-entry2 .ensures ∙ ap (λ (t : Station). t .entry) (c .before .before .before .before .before .before .before .before .before .before .before .before .before .before .before .before .before .before .before .before .before .before .before .before .before .before .before .before .before .before .before .before .before .before .before .before .before .before .before .other .ensures))) then
+    (c .before .before .before .before .before .before .before .before .before .before .before .before .before .before .before .code7 .ensures ∙ ap₂ code (c .before .before .before .before .before .before .before .before .before .before .before .before .before .before .before .before .before .before .before .before .before .before .before .before .before .before .before .before .before .before .before .before .before .before .before .asks .ensures) (c .before .before .before .before .before .before .before .before .before .before .before .before .before .before .before .before .before .before .before .before .before .before .before .before .before .before .before .before .before .before .before .before .before .before .other-asks .ensures)) then
+    (c .before .before .before .before .before .before .before .before .before .before .before .before .bits .ensures ∙ ap₂ bits (c .before .before .before .before .before .before .before .before .before .before .before .before .before .before .has-bilc .ensures ∙ ap (λ (t : Station). t .bilc) (c .before .before .before .before .before .before .before .before .before .before .before .before .before .before .before .before .before .before .before .before .before .before .before .before .before .before .before .before .before .before .before .before .before .before .before .before .before .before .before .before .own .ensures)) (c .before .before .before .before .before .before .before .before .before .before .before .before .before .has-bilc2 .ensures ∙ ap (λ (t : Station). t .bilc) (c .before .before .before .before .before .before .before .before .before .before .before .before .before .before .before .before .before .before .before .before .before .before .before .before .before .before .before .before .before .before .before .before .before .before .before .before .before .before .before .other .ensures))) then
+    (c .before .before .before .before .before .before .before .before .before .bits2 .ensures ∙ ap₂ bits (c .before .before .before .before .before .before .before .before .before .before .before .has-bslg .ensures ∙ ap (λ (t : Station). t .bslg) (c .before .before .before .before .before .before .before .before .before .before .before .before .before .before .before .before .before .before .before .before .before .before .before .before .before .before .before .before .before .before .before .before .before .before .before .before .before .before .before .before .own .ensures)) (c .before .before .before .before .before .before .before .before .before .before .has-bslg2 .ensures ∙ ap (λ (t : Station). t .bslg) (c .before .before .before .before .before .before .before .before .before .before .before .before .before .before .before .before .before .before .before .before .before .before .before .before .before .before .before .before .before .before .before .before .before .before .before .before .before .before .before .other .ensures))) then
+    (c .before .before .before .before .before .before .bits3 .ensures ∙ ap₂ bits (c .before .before .before .before .before .before .before .before .has-reminder .ensures ∙ ap (λ (t : Station). t .reminder) (c .before .before .before .before .before .before .before .before .before .before .before .before .before .before .before .before .before .before .before .before .before .before .before .before .before .before .before .before .before .before .before .before .before .before .before .before .before .before .before .before .own .ensures)) (c .before .before .before .before .before .before .before .has-reminder2 .ensures ∙ ap (λ (t : Station). t .reminder) (c .before .before .before .before .before .before .before .before .before .before .before .before .before .before .before .before .before .before .before .before .before .before .before .before .before .before .before .before .before .before .before .before .before .before .before .before .before .before .before .other .ensures))) then
+    c .before .before .before .before .before .low-byte .ensures then
+    c .before .before .before .before .low-byte2 .ensures then
+    (c .before .before .before .low-byte3 .ensures ∙ ap (λ (m : ℕ). field-of m % 256) (c .before .before .before .before .before .before .before .before .before .before .before .before .before .before .before .before .before .before .before .before .before .before .before .before .before .before .before .before .before .before .before .before .before .before .before .before .before .held .ensures)) then
+    (c .before .before .low-byte4 .ensures ∙ ap (λ (m : ℕ). field-of m / 256 % 256) (c .before .before .before .before .before .before .before .before .before .before .before .before .before .before .before .before .before .before .before .before .before .before .before .before .before .before .before .before .before .before .before .before .before .before .before .before .before .held .ensures)) then
+    (c .before .low-byte5 .ensures ∙ ap (λ (m : ℕ). field-of m % 256) (c .before .before .before .before .before .before .before .before .before .before .before .before .before .before .before .before .before .before .before .before .before .before .before .before .before .before .before .before .before .before .before .before .before .before .before .before .held2 .ensures)) then
+    (c .low-byte6 .ensures ∙ ap (λ (m : ℕ). field-of m / 256 % 256) (c .before .before .before .before .before .before .before .before .before .before .before .before .before .before .before .before .before .before .before .before .before .before .before .before .before .before .before .before .before .before .before .before .before .before .before .before .held2 .ensures)) then refl
+
+pub record-of-spec : {M : Type 1} → statement M
+record-of-spec = tie.close (tie.spec (λ c κs. search needs) (λ c κs. search needs) (λ c κs. search needs) (λ c κs. search needs) (λ c κs. search needs) (λ c κs. search needs) (λ c κs. search needs) (λ c κs. search needs) (λ c κs. search needs) (λ c κs. search needs) (λ c κs. search needs) (λ c κs. search needs) (λ c κs. search needs) (λ c κs. search needs) (λ c κs. search needs) (λ c κs. search needs) (λ c κs. search needs) (λ c κs. search needs) (λ c κs. search needs) (λ c κs. search needs) (λ c κs. search needs) (λ c κs. search needs) (λ c κs. search needs) (λ c κs. search needs) (λ c κs. search needs) (λ c κs. search needs) (λ c κs. search needs) (λ c κs. search needs) (λ c κs. search needs) (λ c κs. search needs) (λ c κs. search needs) (λ c κs. search needs) (λ c κs. search needs) (λ c κs. search needs) (λ c κs. search needs) (λ c κs. search needs) (λ c κs. search needs) (λ c κs. search needs) (λ c κs. search needs) (λ c κs. search needs) returns)

@@ -1,0 +1,361 @@
+//! The calls of the interface for other languages on the plain implementation:
+//! their refusals in order, what they write, and what they have to do with
+//! each other.
+
+use folvkin_compare::cases::{Case, Kept, Kind, answer_to, plain};
+use folvkin_compare::generate::{self, Search};
+use folvkin_compare::interface::{EVENT_ROOM, Interface, Plain};
+use folvkin_compare::plain::key::{SLOT, START};
+use folvkin_compare::plain::{Line, Situation};
+use folvkin_compare::random::Random;
+use folvkin_compare::{told, with_the_calls};
+
+/// "Order: 20, 1, 2, 3, 4, 21, 22, 24, then the event's own."
+const ORDER: [u8; 9] = [20, 1, 2, 3, 4, 21, 22, 24, 5];
+
+/// An input and the refusal that it is due alone, 0 for none.
+type Due<'a> = (&'a [u8], u8);
+
+/// The first in order of the refusals that are due.
+fn first_due(due: &[u8]) -> u8 {
+    ORDER.into_iter().find(|refusal| due.contains(refusal)).unwrap_or(0)
+}
+
+const PLANS: [Due; 8] = [
+    (b"LB\x04\x02", 0),
+    (b"LB\x01\x01", 1),
+    (b"LB\x04\x04", 1),
+    (b"", 20),
+    (b"LC\x04\x02", 20),
+    (b"LB\x04", 20),
+    (b"LB\x04\x02\0", 20),
+    (b"LB\x01\x01\x01", 20),
+];
+
+const SITUATIONS: [Due; 7] = [
+    (b"SI\x01\0\0\0\0\0\0\0\0\0\0\0\0\0\0\0\0\0\0", 0),
+    (b"SI\x01\x01\x01\0\0\0\0\0\0\0\0\0\0\0\0\0\0\0\0", 2),
+    (b"", 20),
+    (b"SJ\x01\0\0\0\0\0\0\0\0\0\0\0\0\0\0\0\0\0\0", 20),
+    (b"SI\x01\0\0\0\0\0\0\0\0\0\0\0\0\0\0\0\0\0", 20),
+    (b"SI\x01\0\0\0\0\0\0\0\0\0\0\0\0\0\0\0\0\0\0\0", 20),
+    (b"\x01\0\0\0\0\0\0\0\0\0\0\0\0\0\0\0\0\0\0", 20),
+];
+
+/// On the fresh situation.
+const EVENTS: [Due; 8] = [
+    (&[1, 0], 0),
+    (&[5, 0], 5),
+    (&[1, 2], 4),
+    (&[0, 0], 3),
+    (&[23, 9], 3),
+    (&[], 20),
+    (&[1], 20),
+    (&[1, 0, 0], 20),
+];
+
+const READINGS: [Due; 6] =
+    [(&[5, 0], 0), (&[5, 1], 21), (&[6, 0], 21), (&[], 20), (&[5], 20), (&[5, 0, 0], 20)];
+
+const SLOTS: [Due; 5] = [
+    (&[0, 0, 0, 0, 0, 0], 0),
+    (&[2, 1, 2, 0, 0, 0], 0),
+    (&[1, 0, 0, 0, 0, 0], 22),
+    (&[0, 0, 0, 0, 0], 22),
+    (&[0, 0, 0, 0, 0, 0, 0], 22),
+];
+
+/// What stands after plan and situation in a question, and after which a bad
+/// plan or situation still comes first.
+const LISTS: [Due; 7] = [
+    (b"EV\x02\x01\0\x02\x01RD\0LN\x02", 0),
+    (b"EV\x02\0\0\x02\x01RD\0LN\x02", 3),
+    (b"EV\x02\x01\x02\x02\x01RD\0LN\x02", 4),
+    (b"EV\x02\x01\0\x01\0RD\0LN\x02", 21),
+    (b"EV\x02\x01\0\x02\x01RD\x01\x05\0\x02LN\x02", 21),
+    (b"EV\x02\x01\0\x02\x01RD\0LN\x06", 21),
+    (b"EV\0RD\0LN\x02", 20),
+];
+
+fn plans_and_situations() -> impl Iterator<Item = (Due<'static>, Due<'static>)> {
+    PLANS.into_iter().flat_map(|plan| SITUATIONS.map(|situation| (plan, situation)))
+}
+
+#[test]
+fn plans_and_situations_are_refused_in_order() {
+    for (plan, due) in PLANS {
+        assert_eq!(Plain::plan(plan), due);
+    }
+    for ((plan, due_plan), (situation, due_situation)) in plans_and_situations() {
+        assert_eq!(Plain::situation(plan, situation), first_due(&[due_plan, due_situation]));
+    }
+}
+
+#[test]
+fn events_are_refused_in_order() {
+    for ((plan, due_plan), (situation, due_situation)) in plans_and_situations() {
+        for (event, due_event) in EVENTS {
+            for length in [0, 21, EVENT_ROOM - 1, EVENT_ROOM, 2 * EVENT_ROOM] {
+                let due_room = if length < EVENT_ROOM { 24 } else { 0 };
+                let due = first_due(&[due_plan, due_situation, due_event, due_room]);
+                let mut room = vec![7; length];
+                let returned = Plain::event(plan, situation, event, &mut room);
+                if due == 0 {
+                    assert_eq!(returned, 21 << 16);
+                    assert_eq!(room[..21], *b"SI\x01\0\0\0\0\0\0\0\0\x01\0\0\0\0\0\0\0\0\0");
+                    assert!(room[21..].iter().all(|&byte| byte == 7));
+                } else {
+                    assert_eq!(returned, due.into());
+                    assert!(room.iter().all(|&byte| byte == 7));
+                }
+            }
+        }
+    }
+}
+
+#[test]
+fn aspects_are_refused_in_order() {
+    for ((plan, due_plan), (situation, due_situation)) in plans_and_situations() {
+        for length in [0, 7, 8, 9] {
+            let due_room = if length < 8 { 24 } else { 0 };
+            let due = first_due(&[due_plan, due_situation, due_room]);
+            let mut room = vec![7; length];
+            assert_eq!(Plain::aspects(plan, situation, &mut room), due);
+            let written = if due == 0 { 8 } else { 0 };
+            assert!(room[..written].iter().all(|&byte| byte == 0));
+            assert!(room[written..].iter().all(|&byte| byte == 7));
+        }
+    }
+}
+
+#[test]
+fn readings_are_refused_in_order() {
+    for ((plan, due_plan), (situation, due_situation)) in plans_and_situations() {
+        for (reading, due_reading) in READINGS {
+            let due = first_due(&[due_plan, due_situation, due_reading]);
+            assert_eq!(Plain::reading(plan, situation, reading), due.into());
+        }
+    }
+}
+
+/// Plan, situation and lists laid end to end are a question. (Records with
+/// bytes missing or left over are left out: what follows could fill them.)
+#[test]
+fn questions_are_refused_in_order() {
+    for ((plan, due_plan), (situation, due_situation)) in plans_and_situations() {
+        if plan.len() != 4 || situation.len() != 21 {
+            continue;
+        }
+        for (lists, due_lists) in LISTS {
+            let question = [plan, situation, lists].concat();
+            let due_question = first_due(&[due_plan, due_situation, due_lists]);
+            assert_eq!(Plain::question(&question), due_question);
+            for (slot, due_slot) in SLOTS {
+                let due = first_due(&[due_question, due_slot]);
+                assert_eq!(told::Run::from(Plain::run(&question, slot)).refusal, due);
+                for length in [0, 5, 6, 13] {
+                    let due_room = if length < SLOT { 24 } else { 0 };
+                    let mut room = vec![7; length];
+                    let told = told::Key::from(Plain::key(&question, slot, &mut room));
+                    assert_eq!(told.refusal, first_due(&[due, due_room]));
+                    assert!(room[told.count * SLOT..].iter().all(|&byte| byte == 7));
+                }
+            }
+        }
+    }
+}
+
+#[test]
+fn marks_are_refused_in_order() {
+    for (kind, due) in [(1, 0), (3, 23)] {
+        for length in [12, 13, 14] {
+            let mut room = vec![7; length];
+            let due = if due == 0 && length < 13 { 24 } else { due };
+            assert_eq!(Plain::mark(kind, 1500, 100, 50, 0, 0, &mut room), due);
+            let is_written = room.iter().take(13).any(|&byte| byte != 7);
+            assert_eq!(is_written, due == 0);
+            assert!(room.iter().skip(13).all(|&byte| byte == 7));
+        }
+    }
+}
+
+/// The second marked example, by calls alone.
+#[test]
+fn what_an_event_wrote_is_lent_to_the_next() {
+    let plan = Line::new(4, 2).unwrap().to_record();
+    let mut situation = Situation::FRESH.to_record().to_vec();
+    let mut happen = |event: [u8; 2]| {
+        let mut room = [0; EVENT_ROOM];
+        let told = told::Event::from(Plain::event(&plan, &situation, &event, &mut room));
+        if told.refusal == 0 {
+            situation = room[..told.length].to_vec();
+        }
+        let mut aspects = [9; 8];
+        assert_eq!(Plain::aspects(&plan, &situation, &mut aspects), 0);
+        (told.refusal, aspects)
+    };
+    assert_eq!(happen([1, 0]), (0, [0; 8]));
+    assert_eq!(happen([2, 1]), (0, [0, 2, 2, 1, 0, 0, 0, 0]));
+    assert_eq!(happen([14, 0]), (0, [2, 2, 2, 1, 0, 0, 0, 0]));
+    assert_eq!(happen([14, 1]), (13, [2, 2, 2, 1, 0, 0, 0, 0]));
+}
+
+/// A candidate's slot runs as its events do one by one, and the readings hold
+/// where each has its value.
+#[test]
+fn runs_are_events_one_by_one() {
+    let r = &mut Random::new(3);
+    for _ in 0..20_000 {
+        let question = generate::question(r, Search::Any);
+        let bytes = generate::question_bytes(&question);
+        let (plan, situation) = (&bytes[..4], &bytes[4..25]);
+        let slot = generate::slot(r, &question, &[]);
+        let mut situation = situation.to_vec();
+        let mut right = told::Run::default();
+        for (place, &listed) in (1..).zip(&slot[1..=usize::from(slot[0])]) {
+            let event = question.events()[usize::from(listed - 1)].to_bytes();
+            let mut room = [0; EVENT_ROOM];
+            let told = told::Event::from(Plain::event(plan, &situation, &event, &mut room));
+            if told.refusal != 0 {
+                right = told::Run { place, event_refusal: told.refusal, ..right };
+                break;
+            }
+            situation = room[..told.length].to_vec();
+        }
+        if right.place == 0 {
+            let holds = question.readings().iter().all(|reading| {
+                let returned = Plain::reading(plan, &situation, &[reading.kind, reading.argument]);
+                returned == u32::from(reading.value) << 8
+            });
+            right.holds = holds.into();
+        }
+        assert_eq!(told::Run::from(Plain::run(&bytes, &slot)), right);
+    }
+}
+
+/// The aspects written are those that readings of kind 1 have.
+#[test]
+fn aspects_are_readings() {
+    let r = &mut Random::new(4);
+    for _ in 0..5_000 {
+        let line = generate::line(r);
+        let (plan, situation) = (line.to_record(), generate::sound_or_reached(r, &line).to_record());
+        let n = line.sections();
+        let mut room = vec![9; 2 * usize::from(n)];
+        assert_eq!(Plain::aspects(&plan, &situation, &mut room), 0);
+        for (signal, aspect) in (1..=n).chain(129..=128 + n).zip(room) {
+            assert_eq!(Plain::reading(&plan, &situation, &[1, signal]), u32::from(aspect) << 8);
+        }
+    }
+}
+
+/// A number that a call returns reads back into its fields.
+#[test]
+fn numbers_read_back() {
+    let event = told::Event { refusal: 13, name: 7, length: 96 };
+    assert_eq!(u64::from(event), 13 + (7 << 8) + (96 << 16));
+    assert_eq!(told::Event::from(u64::from(event)), event);
+    let reading = told::Reading { refusal: 0, value: 2 };
+    assert_eq!(u32::from(reading), 2 << 8);
+    assert_eq!(told::Reading::from(u32::from(reading)), reading);
+    let key = told::Key { refusal: 0, more: 1, count: 120_792 };
+    assert_eq!(u64::from(key), (1 << 8) + (120_792 << 16));
+    assert_eq!(told::Key::from(u64::from(key)), key);
+    let run = told::Run { refusal: 0, place: 3, event_refusal: 13, holds: 0, name: 5 };
+    assert_eq!(u64::from(run), (3 << 8) + (13 << 16) + (5 << 32));
+    assert_eq!(told::Run::from(u64::from(run)), run);
+}
+
+/// A case written as text is that case again.
+#[test]
+fn cases_read_back() {
+    let (plan, situation, room) = (b"LB\x04\x02", Situation::FRESH.to_record(), [1; 100]);
+    let cases = [
+        Case::plan(&[]),
+        Case::situation(plan, &situation),
+        Case::event(plan, &situation, &[1, 0], &room),
+        Case::aspects(plan, &situation, &room[..8]),
+        Case::reading(plan, &situation, &[2, 1]),
+        Case::question(plan),
+        Case::key(plan, &START, &[]),
+        Case::run(plan, &[0; SLOT]),
+        Case::mark(255, u32::MAX, 0, 1, 2, 3, &room[..13]),
+    ];
+    assert_eq!(cases.each_ref().map(|case| case.kind), Kind::ALL);
+    for case in cases {
+        let text = case.to_string();
+        let kept = Kept::from_text(&text).expect("a case");
+        assert_eq!((kept.case().kind, kept.case().numbers), (case.kind, case.numbers));
+        assert_eq!((kept.case().read, kept.case().room.len()), (case.read, case.room.len()));
+        assert_eq!(kept.case().to_string(), text);
+        assert!(Kept::from_text(&format!("{text} 1")).is_none());
+    }
+    for text in ["", "plan", "plan 4", "number 256 1 1 1 1 1 13", "aspects 00 00 -1", "sheet 00"] {
+        assert!(Kept::from_text(text).is_none());
+    }
+}
+
+/// A line of a vectors file for each kind of answer.
+#[test]
+fn answers_are_those_of_the_vectors_files() {
+    let plan = "4c420402";
+    let fresh = "534901000000000000000000000000000000000000";
+    let asked = "534901000000000000000001000000000000000000";
+    let question = format!("{plan}{fresh}455602010002015244010200014c4e02");
+    for (case, right) in [
+        (format!("plan {plan}"), "0".to_string()),
+        ("plan -".into(), "20".into()),
+        (format!("sound {plan} {fresh}"), "0".into()),
+        (format!("event {plan} {fresh} 0100 96"), format!("0 0 {asked}")),
+        (format!("event {plan} {fresh} 0100 95"), "24 0 -".into()),
+        (format!("aspects {plan} {fresh} 8"), "0 0000000000000000".into()),
+        (format!("aspects {plan} {fresh} 7"), "24 -".into()),
+        (format!("reading {plan} {fresh} 0500"), "0 0".into()),
+        (format!("question {question}"), "0".into()),
+        (format!("key {question} ff0000000000 6"), "0 1 0 020102000000".into()),
+        (format!("run {question} 020102000000"), "0 0 0 0 1".into()),
+        (format!("run {question} 020101000000"), "0 2 7 0 0".into()),
+        ("number 1 1500 100 50 0 0 13".into(), "0 00000000000058420200000000".into()),
+        (format!("keytext {question}"), "1 2|total 1|".into()),
+    ] {
+        assert_eq!(answer_to(&case, plain), Some(right), "{case}");
+    }
+}
+
+/// The declarations of the calls in C, as the list has them.
+macro_rules! declarations {
+    ($(
+        $(#[$says:meta])*
+        $kind:ident $name:ident $word:literal $symbol:ident
+            ($($number:ident: $type:ty),*)
+            ($($read:ident $read_length:ident),*)
+            ($($room:ident $room_length:ident)?) -> $returned:ty;
+    )*) => {
+        [$(format!(
+            "{} {}({});",
+            in_c::<$returned>(),
+            stringify!($symbol),
+            [
+                $(format!("{} {}", in_c::<$type>(), stringify!($number)),)*
+                $(format!("const uint8_t *{}, size_t {}", stringify!($read), stringify!($read_length)),)*
+                $(format!("uint8_t *{}, size_t {}", stringify!($room), stringify!($room_length)),)?
+            ]
+            .join(", ")
+        )),*]
+    };
+}
+
+fn in_c<T>() -> String {
+    format!("uint{}_t", 8 * size_of::<T>())
+}
+
+#[test]
+fn the_header_declares_these_calls() {
+    let header = include_str!("../../include/folvkin.h");
+    let header = header.split_whitespace().collect::<Vec<_>>().join(" ");
+    let declarations = with_the_calls!(declarations);
+    for declaration in &declarations {
+        assert!(header.contains(declaration), "{declaration}");
+    }
+    assert_eq!(header.matches(" folvkin_").count(), declarations.len());
+}
