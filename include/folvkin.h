@@ -1,28 +1,31 @@
 /* folvkin.h: the interface of Folvkin for other languages.
  *
  * Link with libfolvkin.a (`rt staticlib folvkin` writes it to
- * target/staticlib; it is x86-64 code for Linux). All that crosses the
- * interface is the bytes of document 01, "Scope and exact rules: integrated
- * line block papers"; docs/RECORDS.md has every byte.
+ * target/staticlib; it is x86-64 code for Linux). Plans, situations, events,
+ * questions, slots and sheet lines cross it as the bytes of document 01,
+ * "Scope and exact rules: integrated line block papers"; docs/RECORDS.md has
+ * every byte of them.
  *
  *   plan       the record LB, 4 bytes, as it stands in a question
  *   situation  the record SI, 21 bytes, as it stands in a question
  *   event      two bytes, code and argument
  *   reading    two bytes, kind and argument
- *   question   the records LB, SI, EV, RD, LN end to end: a plan, a situation
- *              and the rest laid one after the other are a question
+ *   question   the records LB, SI, EV, RD, LN end to end: the plan, the
+ *              situation and the rest laid one after the other
  *   slot       six bytes, a sequence of events: its length, then their places
  *              in EV from 1, then zeros
  *
  * What holds of every function:
  *
- *   - It takes any numbers and any bytes; nothing has to be checked before.
+ *   - It takes any numbers and any bytes: what they say has not to be checked
+ *     before.
  *   - A slice is a pointer and then its length in bytes. The pointer must be
  *     to so many bytes that may be read (and written, for a room); it may not
  *     be null, even with length 0. A room may not overlap another slice.
- *   - It reads and writes nothing but what it is lent, keeps no pointer,
- *     allocates nothing and has no state: calls from several threads at once
- *     are fine as long as they do not write to the same memory.
+ *   - It is written to read and write nothing but what it is lent, to keep no
+ *     pointer, to allocate nothing and to have no state, so that calls from
+ *     several threads at once are fine as long as they do not write to the
+ *     same memory.
  *   - Bytes of a room past what was written keep their values.
  *   - Where it refuses, the refusal's number comes back, all other fields of
  *     the result are zero and no byte of the room is changed.
@@ -50,8 +53,8 @@
  *   23  numeric question or unit byte out of range
  *   24  too little room
  *
- * Where several apply, the first in the order 20, 1, 2, 3, 4, 21, 22, 24, then
- * 5 to 14; for numbers 23, then 24.
+ * Where several apply, the first in the order 20, 1, 2, 3 and 4 (event by
+ * event), 21, 22, 24, then 5 to 14; for numbers 23, then 24.
  */
 #ifndef FOLVKIN_H
 #define FOLVKIN_H
@@ -73,9 +76,9 @@ uint8_t folvkin_situation(const uint8_t *plan, size_t plan_length, const uint8_t
                           size_t situation_length);
 
 /* Has an event happen.
- *   room  takes the situation after, as its record, ready to be lent to the
- *         next call; less than 96 bytes is refused by 24, whatever the length
- *         written
+ *   room  takes the situation after, as its record, which with the length
+ *         returned can be lent to the next call (with another room); less
+ *         than 96 bytes is refused by 24, whatever the length written
  * Returns refusal + 2^8 name + 2^16 length: how many bytes were written. The
  * name is 0. Refusals 20, 1, 2, 3, 4, 24, then the event's own, 5 to 14. */
 uint64_t folvkin_event(const uint8_t *plan, size_t plan_length, const uint8_t *situation,
@@ -91,7 +94,8 @@ uint8_t folvkin_aspects(const uint8_t *plan, size_t plan_length, const uint8_t *
 
 /* Reads a value off a situation.
  *   reading  kind and argument: 1 any signal's aspect, 2 orientation, 3
- *            annulment, 4 exit route (argument station), 5 line (argument 0)
+ *            annulment, 4 exit route (argument station), 5 line (argument 0;
+ *            0 free, 1 not)
  * Returns refusal + 2^8 value. Refusals 20, 1, 2, and 21 for a kind or an
  * argument out of range. */
 uint32_t folvkin_reading(const uint8_t *plan, size_t plan_length, const uint8_t *situation,
