@@ -11,7 +11,7 @@ use Rattle.sections.proofs.SetsOfSets.{low-bit}
 use Rattle.situation.specs.Packed.{unpacked}
 use Rattle.records.specs.Situation.{Codes, in-range, said}
 use Rattle.records.proofs.CodesLaws.{codes-right}
-use Rattle.situations.specs.Words.{StationCodes, bits-of, station-word, flags-word, codes-A, codes-B, in-words}
+use Rattle.situations.specs.InWords.{StationCodes, bits-of, station-word, flags-word, codes-A, codes-B, in-words}
 
 -- ---- a code below a number, and a flag: its bits, and then those of the number
 one-is-odd : (a : ℕ) → a ≤ 2 → eqb (a % 2) 1 ≡ eqb a 1

@@ -5,7 +5,7 @@ ghost use lib.ListN.{length};
 ghost use Rattle.situation.specs.Packed.{unpacked};
 ghost use Rattle.records.specs.Situation.{bits, in-range, no-situation, codes-of, situation-of, situation};
 ghost use Rattle.records.specs.InBytes.{codes-at};
-ghost use Rattle.situations.specs.Words.{bits-word, codes-word, flags-word, in-words};
+ghost use Rattle.situations.specs.InWords.{bits-word, codes-word, flags-word, in-words};
 use block::codes::Pending;
 use block::line::Direction;
 use records::field::low_byte;

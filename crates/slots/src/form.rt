@@ -25,7 +25,8 @@ fn byte_ok(n: u8, left: u8, b: u8) -> bool
     b <= n
 }
 
-fn one_less(left: u8) -> u8
+// How many places are left after one of them.
+fn places_left(left: u8) -> u8
     ensures { λ r. ⌜ r ≡ left - 1 ⌝ }
 {
     if left == 0 { 0 } else { left - 1 }
@@ -41,7 +42,7 @@ fn is_filled(n: u8, count: u8, x: &[u8]) -> bool
         if !byte_ok(n, left, x[i]) {
             return false;
         }
-        left = one_less(left);
+        left = places_left(left);
         i += 1;
     }
     left == 0

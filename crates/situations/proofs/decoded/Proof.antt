@@ -1,6 +1,6 @@
 use borrow.Author.Needs.{needs}
 use Rattle.records.specs.InBytes.{codes-at}
-use Rattle.situations.specs.Words.{in-words}
+use Rattle.situations.specs.InWords.{in-words}
 use Rattle.situations.proofs.decoded.Statement.{statement}
 use Rattle.situations.proofs.decoded.Tie as tie
 

@@ -23,7 +23,7 @@ returns c =
 loop-again : tie.Need-loop-again Inv-loop μ-loop
 loop-again c =
     let l = c .before .before .before .before .before in
-    sym (sym (l .loop .inv) ∙ filled-step _ _ _ _ (c .before .before .before .before .loop-test .taken) ∙ rw (sym (c .before .before .byte-ok .ensures) ∙ not-false _ (c .before .if1 .left), ← c .one-less .ensures))
+    sym (sym (l .loop .inv) ∙ filled-step _ _ _ _ (c .before .before .before .before .loop-test .taken) ∙ rw (sym (c .before .before .byte-ok .ensures) ∙ not-false _ (c .before .if1 .left), ← c .places-left .ensures))
 
 returns-2 : tie.Need-returns-2 Inv-loop μ-loop
 returns-2 c = sym (filled-end _ _ _ _ (c .loop-test .left)) ∙ c .before .loop .inv
