@@ -1,11 +1,11 @@
 -- THE table: a kind of event for each code. Which codes are known, what an argument names, whether pending goes, and the row: all is read
 -- off it.
 use Prim.Native.Nat.{ℕ}
-use mathlib.Core.Bool.{Bool, true, false, not}
+use mathlib.Core.Bool.{Bool, true, false}
 use mathlib.Core.List.{List, [], _∷_}
 use lib.Dec.{eqb}
 use Rattle.words.specs.Words.{if_then_else_}
-use Rattle.block.specs.Checks.{Row, ⟶_, _┃_, Check, _when_}
+use Rattle.block.specs.Checks.{Row, ⟶_, _┃_, _when_}
 use Rattle.block.specs.Place.{Place}
 use Rattle.block.specs.Situation.{Situation}
 use Rattle.block.specs.Events.{sobb, cobb, afbli, afble, dafbl, bilc, dilc, bslg, bslg-off, bslb, bslb-off, reminder, reminder-off, exit-normal, exit-special, exit-released, entry, entry-released, occupied, freed, link-lost, link-restored}

@@ -1,11 +1,10 @@
 -- An accepted row passed every check up to the first `enough`. Assumes nothing.
-use Prim.Native.Nat.{ℕ}
 use mathlib.Core.Bool.{Bool, true, false, not}
 use mathlib.Core.Path.{_≡_, refl}
 use lib.Dec.{T, eqb, eqb→eq}
 use Rattle.words.specs.Words.{_and_}
 use Rattle.words.proofs.Tests.{not-equal, and-at}
-use Rattle.block.specs.Checks.{Row, ⟶_, _┃_, Check, _when_, enough-when_, refusal}
+use Rattle.block.specs.Checks.{Row, ⟶_, _┃_, _when_, enough-when_, refusal}
 
 abbrev pub numbered : Row → Bool
 numbered (⟶ y) = true

@@ -1,7 +1,7 @@
 -- Each event is accepted from some sound situation of the plan 4, 2: a line for each code, and one computed test. Assumes nothing.
 use Prim.Native.Nat.{ℕ}
 use mathlib.Core.Bool.{Bool, true, false}
-use mathlib.Core.Path.{_≡_, subst}
+use mathlib.Core.Path.{subst}
 use lib.Dec.{T, eqb, eqb→eq}
 use Rattle.words.specs.Words.{_and_, if_then_else_}
 use Rattle.words.proofs.Tests.{and-at}
@@ -11,7 +11,6 @@ use Rattle.block.specs.Table.{Kind, Cobb, Dafbl, Dilc, BslgOff, BslbOff, Remind
 use Rattle.block.specs.Apply.{event, applied, stepped, acted, refusal-at}
 use Rattle.block.specs.declared.line.Plan.{Plan}
 use Rattle.block.specs.declared.line.Direction.the-variants.{TowardsB}
-use Rattle.block.specs.declared.event.Event.{Event}
 use Rattle.blocklaws.proofs.InTable.{All, by-test, at-code, its-code}
 use Rattle.blocklaws.specs.Laws.{AcceptedSomewhere}
 

@@ -1,12 +1,11 @@
 -- An accepted event does what it says: it was not so before, and it is so after; so it changes the situation. Assumes nothing.
 use Prim.Native.Nat.{ℕ, _<_}
 use mathlib.Core.Bool.{Bool, true, false, not}
-use mathlib.Core.List.{List, [], _∷_}
-use mathlib.Core.Path.{_≡_, refl, sym, ap, ap₂, subst, _∙_}
+use mathlib.Core.Path.{_≡_, refl, sym, ap, subst, _∙_}
 use native.Mathlib.Omega.{arith}
 use borrow.Author.Tests.{not-false}
-use lib.Dec.{T, T-not, eqb}
-use Rattle.words.specs.Words.{_and_, _or_, if_then_else_}
+use lib.Dec.{T, eqb}
+use Rattle.words.specs.Words.{_and_, _or_}
 use Rattle.words.proofs.Tests.{twice-not, not-equal, if-case}
 use Rattle.sections.specs.Sections.{_belongs-to_, _with-section_, _without-section_}
 use Rattle.sections.proofs.SetLaws.{has-with-same, has-without-same}
@@ -31,7 +30,7 @@ use Rattle.blocklaws.proofs.Every.{everywhere-at}
 use Rattle.blocklaws.proofs.Accepted.{passed}
 use Rattle.blocklaws.proofs.Placed.{Placed, placed}
 use Rattle.blocklaws.proofs.SoundnessKept.{parts, seen-sound}
-use Rattle.blocklaws.specs.Laws.{Deed, deeds, says, so-at, EventsDo, EventsChange}
+use Rattle.blocklaws.specs.Laws.{deeds, says, so-at, EventsDo, EventsChange}
 
 -- an event of the kind that is accepted, as own sees it
 pub record Right (k : Kind) (at : Spot) (x : Situation) : Type 0 where

@@ -2,30 +2,27 @@
 use Prim.Native.Nat.{ℕ, _+_, _/_, _%_, _^_, _≤_, _<_}
 use mathlib.Core.Bool.{Bool, true, not}
 use mathlib.Core.List.{List, [], _∷_}
-use mathlib.Core.Path.{_≡_, refl, sym, ap, fun-ext, _∙_}
+use mathlib.Core.Path.{_≡_, refl, ap, _∙_}
 use native.Mathlib.Nat.{mod-lt, lt-of-lt-of-le}
-use native.Mathlib.Decide.{decLt}
 use native.Mathlib.Omega.{arith}
 use borrow.Author.Tests.{ltb-true}
-use lib.Dec.{T, eqb, leb, ltb, eqb→eq}
+use lib.Dec.{T, eqb, ltb, eqb→eq}
 use lib.Pow.{pow-pos, pow-mono}
 use Rattle.words.specs.Words.{_and_}
 use Rattle.sections.specs.Sections.{_belongs-to_, sections-up-to}
 use Rattle.words.proofs.Tests.{holds-is, and-at}
 use Rattle.sections.proofs.SetLaws.{below-of}
 use Rattle.sections.proofs.SetsOfSets.{low-bit}
-use Rattle.block.specs.Line.{isPlan, first-section, entrance}
-use Rattle.block.specs.Situation.{Situation, Kept, held}
-use Rattle.block.specs.Sound.{sound, held-sound}
+use Rattle.block.specs.Line.{first-section, entrance}
+use Rattle.block.specs.Situation.{Situation, held}
+use Rattle.block.specs.Sound.{held-sound}
 use Rattle.block.proofs.PlanLaws.{plan-short}
-use Rattle.block.specs.declared.line.Plan.{Plan}
-use Rattle.block.specs.declared.line.Direction.{Direction}
 use Rattle.block.specs.declared.line.Direction.the-variants.{TowardsA, TowardsB}
-use Rattle.situation.specs.Packed.{Flags, flags-of, with-flags, unpacked, flagged}
+use Rattle.situation.specs.Packed.{Flags, flags-of, unpacked, flagged}
 use Rattle.situation.specs.declared.Situation.{Situation as Packed}
 use Rattle.situation.proofs.FlagLaws.{with-flag, then-flagged}
 use Rattle.blocklaws.proofs.SoundnessKept.{parts}
-use Rattle.blocklaws.specs.Laws.{Fits, HasWords}
+use Rattle.blocklaws.specs.Laws.{HasWords}
 
 -- ---- flags set one after the other
 abbrev Flag : Type 0

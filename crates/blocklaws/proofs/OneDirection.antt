@@ -1,9 +1,7 @@
 -- An area has at most one direction: it is never out and in at once. Assumes nothing.
 use mathlib.Core.Bool.{not}
-use lib.Dec.{T}
 use Rattle.words.specs.Words.{_and_}
-use Rattle.block.specs.Situation.{Station, areaDirection}
-use Rattle.block.specs.Sound.{stationSound}
+use Rattle.block.specs.Situation.{areaDirection}
 use Rattle.blocklaws.proofs.Every.{everyStation-at}
 use Rattle.blocklaws.specs.Laws.{OneDirection}
 

@@ -2,14 +2,13 @@
 -- Of every accepted event: that, and nothing else but SOBB, writes it. Assumes nothing.
 use Prim.Native.Nat.{ℕ}
 use mathlib.Core.Bool.{Bool, true, false, not, Bool·beq}
-use mathlib.Core.Path.{_≡_, refl, sym, ap, ap₂, _∙_, subst}
+use mathlib.Core.Path.{_≡_, refl, ap, ap₂, _∙_, subst}
 use native.Mathlib.Omega.{arith}
-use lib.Dec.{T, eqb}
+use lib.Dec.{eqb}
 use Rattle.words.specs.Words.{_and_, _or_, if_then_else_}
 use Rattle.words.proofs.Tests.{twice-not, not-equal, if-case}
-use Rattle.block.specs.Checks.{effect}
 use Rattle.block.specs.Judged.{judged}
-use Rattle.block.specs.Pending.{differ, changes, orientation-change}
+use Rattle.block.specs.Pending.{changes, orientation-change}
 use Rattle.block.specs.Place.{Place, place}
 use Rattle.block.specs.Situation.{Situation, Kept, nobody, own-sobb, turned, turnedRound, seen-from}
 use Rattle.block.specs.Table.{Kind, Sobb, table, kind-of}

@@ -1,11 +1,10 @@
 -- What is known of the place that a right argument names. Assumes nothing.
 use Prim.Native.Nat.{ℕ, _-_, _≤_, _<_}
-use mathlib.Core.Bool.{Bool, true, false, not}
-use mathlib.Core.Path.{_≡_, subst, sym}
+use mathlib.Core.Bool.{not}
+use mathlib.Core.Path.{_≡_, subst}
 use native.Mathlib.Omega.{arith}
 use borrow.Author.Tests.{lt-leb}
 use lib.Dec.{T, eqb, leb, eqb→eq, leb→le}
-use Rattle.words.specs.Words.{_and_, if_then_else_}
 use Rattle.words.proofs.Tests.{and-at, not-equal}
 use Rattle.block.specs.Line.{is-section, first-section, entrance, direction-of, section-of, is-block-signal, is-exit}
 use Rattle.block.specs.Apply.{fits}

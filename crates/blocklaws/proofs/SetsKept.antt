@@ -1,16 +1,16 @@
 -- Every event keeps the sets of a sound situation within the plan. Assumes nothing.
-use Prim.Native.Nat.{ℕ, _≤_, _<_}
-use mathlib.Core.Bool.{Bool, true, false, not}
-use mathlib.Core.Path.{_≡_, sym, subst, ap}
+use Prim.Native.Nat.{ℕ, _<_}
+use mathlib.Core.Bool.{not}
+use mathlib.Core.Path.{_≡_, sym, subst}
 use native.Mathlib.Omega.{arith}
 use lib.Dec.{T, eqb}
-use Rattle.words.specs.Words.{_and_, _or_, if_then_else_}
+use Rattle.words.specs.Words.{_and_}
 use Rattle.sections.specs.Sections.{_belongs-to_, _with-section_, _without-section_, sections-up-to}
 use Rattle.words.proofs.Tests.{and-at, and-of, if-case}
 use Rattle.sections.proofs.SetLaws.{has-with-other, has-without-other, with-up-to, without-up-to}
 use Rattle.block.specs.Line.{first-section, entrance}
 use Rattle.block.specs.Place.{Place}
-use Rattle.block.specs.Situation.{Signals, Held, Situation, held-towards, with-held-towards, withHeld}
+use Rattle.block.specs.Situation.{Signals, Held, Situation, held-towards, with-held-towards}
 use Rattle.block.specs.Sound.{held-sound, setsSound}
 use Rattle.block.specs.Table.{Kind, Bslb, Occupied}
 use Rattle.block.specs.declared.line.Plan.{Plan}

@@ -1,16 +1,13 @@
 -- "Every accepted event leads from a sound situation to a sound one." Assumes nothing.
-use Prim.Native.Nat.{ℕ}
-use mathlib.Core.Bool.{Bool, not}
-use mathlib.Core.Path.{_≡_, sym, subst}
+use mathlib.Core.Bool.{not}
 use lib.Dec.{T, eqb}
 use borrow.Author.Tests.{eq-eqb}
-use Rattle.words.specs.Words.{_and_, if_then_else_}
 use Rattle.words.proofs.Tests.{and-at, and-of, twice-not, if-case, is-holds}
 use Rattle.block.specs.Line.{isPlan}
 use Rattle.block.specs.Judged.{judged}
 use Rattle.block.proofs.PlanLaws.{plan-short}
 use Rattle.block.specs.Place.{Place, place}
-use Rattle.block.specs.Situation.{Situation, Kept, turnedRound, seen-from, kept-from}
+use Rattle.block.specs.Situation.{Situation, Kept, turnedRound, seen-from}
 use Rattle.block.specs.Sound.{stationsSound, setsSound, sound}
 use Rattle.block.specs.Table.{Kind, kind-of}
 use Rattle.block.specs.Apply.{refuses, refusal-at, led-at, known, argument-right, spot, own-refusal, reached, accepted, refused, acted, stepped, applied, Outcome}

@@ -1,6 +1,5 @@
 -- "Every accepted event leads from a sound situation to a sound one": the stations, the link and the pending SOBB. One test, computed for every
 -- line of the table at every sound situation. Assumes nothing.
-use Prim.Native.Nat.{ℕ}
 use mathlib.Core.Bool.{Bool, true, false, not}
 use lib.Dec.{T, T-not, eqb}
 use Rattle.block.specs.Checks.{Row, refusal, effect}

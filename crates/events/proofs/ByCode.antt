@@ -1,6 +1,6 @@
 -- An arm of the code's match is the kind of the table that has its code; a code that no arm has is no kind. Assumes nothing.
 use Prim.Native.Nat.{ℕ}
-use mathlib.Core.Path.{_≡_, refl, sym, ap, ap₂, subst, _∙_}
+use mathlib.Core.Path.{_≡_, refl, sym, ap, _∙_}
 use Rattle.block.specs.Situation.{Situation, Kept, seen-from, kept-from}
 use lib.Dec.{T}
 use Rattle.block.specs.Table.{Kind, station, table, unknown, kind-of}

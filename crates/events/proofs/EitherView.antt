@@ -3,7 +3,7 @@
 use Prim.Native.Nat.{ℕ}
 use mathlib.Core.Path.{_≡_, refl, sym, ap, _∙_}
 use Rattle.sections.specs.Sections.{_with-section_, _without-section_}
-use Rattle.block.specs.Situation.{Situation, Kept, turnedRound, seen-from, kept-from, held, with-held, withTrack, withOccupied}
+use Rattle.block.specs.Situation.{Situation, Kept, seen-from, kept-from, held, with-held, withTrack, withOccupied}
 use Rattle.block.specs.Table.{Kind, Bslb, BslbOff, Occupied, Freed}
 use Rattle.block.specs.Apply.{refuses, leads, refusal-at, led-at}
 use Rattle.block.specs.declared.line.Name.{Name}

@@ -14,7 +14,7 @@ use borrow.Author.Tests.{lt-ltb, le-ltb, le-leb, lt-leb}
 use Rattle.words.specs.Words.{if_then_else_}
 use Rattle.sections.specs.Sections.{_belongs-to_}
 use Rattle.sections.specs.Sets.{one-down}
-use Rattle.block.specs.Line.{isPlan, is-section, direction-of, section-of}
+use Rattle.block.specs.Line.{isPlan, is-section}
 use Rattle.block.specs.declared.line.Plan.{Plan}
 use Rattle.block.specs.declared.line.Direction.{Direction}
 use Rattle.block.specs.declared.line.Direction.the-variants.{TowardsA, TowardsB}

@@ -1,23 +1,12 @@
 -- What a call tells, refusal by refusal. Assumes nothing.
-use Prim.Native.Nat.{ℕ, _+_, _*_, _≤_}
-use mathlib.Core.Path.{_≡_, refl, sym, ap, _∙_}
-use mathlib.Core.Bool.{Bool, true, false}
+use Prim.Native.Nat.{ℕ, _+_, _*_}
+use mathlib.Core.Path.{_≡_, _∙_}
 use mathlib.Core.List.{List, _++_}
 use native.Mathlib.Omega.{arith}
-use borrow.Author.Tests.{ne-eqb, eq-eqb}
+use borrow.Author.Tests.{ne-eqb}
 use lib.ListN.{length, take, drop}
 use lib.Seq.{take-length}
-use Rattle.words.specs.Words.{if_then_else_}
-use Rattle.forms.specs.Form.{laid}
-use Rattle.lists.specs.Refusal.{_or-else_}
 use Rattle.folvkin.specs.Block.{told-with, room-with}
-
--- ---- the first refusal
-pub first-refusal : {r a : ℕ} (later : ℕ) → r ≡ a → (r ≡ 0 → ⊥) → a or-else later ≡ r
-first-refusal {r} later e z = ap (λ (b : ℕ). b or-else later) (sym e) ∙ rw (ne-eqb r 0 z)
-
-pub next-refusal : {r a : ℕ} (later : ℕ) → r ≡ a → r ≡ 0 → a or-else later ≡ later
-next-refusal later e z = ap (λ (b : ℕ). b or-else later) (sym e ∙ z)
 
 -- ---- what is told and left in the room
 module _ {t r : ℕ} (e : t ≡ r) (z : r ≡ 0 → ⊥) (after : List ℕ) where

@@ -2,7 +2,7 @@
 use Prim.Native.Nat.{ℕ, _≤_}
 use mathlib.Core.List.{List}
 use native.Mathlib.Omega.{arith}
-use lib.Dec.{T, eqb, leb, eqb→eq}
+use lib.Dec.{eqb, leb, eqb→eq}
 use lib.ListN.{length}
 use Rattle.words.proofs.Tests.{if-case}
 use Rattle.keylaws.specs.Continuation.{isContinuation}

@@ -2,10 +2,9 @@
 -- says the question's plan and situation. Assumes nothing.
 use Prim.Native.Nat.{ℕ}
 use mathlib.Core.Path.{_≡_, refl, sym, ap, _∙_}
-use mathlib.Core.Bool.{Bool, true}
+use mathlib.Core.Bool.{true}
 use mathlib.Core.List.{List, _++_}
 use lib.Dec.{T}
-use Rattle.words.specs.Words.{if_then_else_}
 use Rattle.words.proofs.Tests.{holds-is}
 use Rattle.forms.specs.Whole.{accepted, whole}
 use Rattle.forms.proofs.Whole as Whole
@@ -23,7 +22,7 @@ use Rattle.records.proofs.QuestionLaws.{one-form}
 use Rattle.records.proofs.Lies.{fits}
 use Rattle.paper.specs.Question.{Question, question-of}
 use Rattle.paper.specs.Read.{readOf}
-use Rattle.paper.specs.Given.{Given, given}
+use Rattle.paper.specs.Given.{given}
 use Rattle.paper.proofs.Accepted as Accepted
 use Rattle.paper.proofs.ReadBytes.{AcceptedBytes, accepted-bytes, read-question}
 use Rattle.folvkin.specs.Block.{plan-refusal, situation-refusal}

@@ -8,7 +8,7 @@ use Rattle.block.specs.Judged.{judged}
 use Rattle.block.specs.declared.line.Plan.{Plan}
 use Rattle.block.specs.declared.event.Event.{Event}
 use Rattle.block.specs.Situation.{Kept}
-use Rattle.lists.specs.Refusal.{_unless_, event-refusal}
+use Rattle.lists.specs.Refusal.{event-refusal}
 use Rattle.lists.proofs.RightLists.{or-else-none, unless-none}
 use Rattle.folvkin.specs.Block.{before-event, longest-situation}
 

@@ -1,6 +1,5 @@
 -- The calls on questions: what they tell is packed into one number.
 use Prim.Native.Nat.{ℕ, _+_, _*_}
-use mathlib.Core.Bool.{Bool}
 use mathlib.Core.List.{List}
 use Rattle.words.specs.Words.{flag}
 use Rattle.paper.specs.Read.{readOf}

@@ -4,7 +4,6 @@ ghost use mathlib.Core.Bool.{true};
 ghost use Prim.Native.Nat.{_+_, _≤_};
 ghost use mathlib.Core.List.{_++_};
 ghost use lib.ListN.{length, drop};
-ghost use Rattle.forms.specs.Whole.{accepted};
 ghost use Rattle.block.specs.Line.{isPlan};
 ghost use Rattle.situation.specs.Packed.{unpacked};
 ghost use Rattle.paper.specs.Given.{given};

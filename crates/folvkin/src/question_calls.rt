@@ -1,8 +1,6 @@
 // Questions, their keys in parts, and candidates' slots.
 ghost use mathlib.Core.Path.{_≡_};
 ghost use Prim.Native.Nat.{_+_, _*_};
-ghost use Rattle.keys.specs.Calls.{left-by, fetched};
-ghost use Rattle.paper.specs.Read.{readOf};
 ghost use Rattle.folvkin.specs.Questions.{question-refusal, key-packed, key-room, run-packed};
 use keys::key;
 use keys::run;

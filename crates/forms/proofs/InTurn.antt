@@ -35,7 +35,7 @@ module _ {A : Type 0} {F : Form A} (L : Lawful F) (s : List ℕ) where
       by : k ≤ length s → length (F .written (t .what)) ≡ length s - length (drop k s) → length (F .written (t .what)) ≡ k
       by l e = omega (arith, e, l, length-drop k s)
 
-stands-long : (m : Letters) (s : List ℕ) → stands m s ≡ true → 2 ≤ length s
+pub stands-long : (m : Letters) (s : List ℕ) → stands m s ≡ true → 2 ≤ length s
 stands-long m [] h = absurd (never false h refl)
 stands-long m (x ∷ []) h = absurd (never false h refl)
 stands-long m (x ∷ y ∷ s) h = omega arith

@@ -1,6 +1,6 @@
 -- A form that is read to the end, told by how many bytes it takes. Assumes nothing.
 use Prim.Native.Nat.{ℕ, _<_, _≤_}
-use mathlib.Core.Path.{_≡_, refl}
+use mathlib.Core.Path.{_≡_}
 use mathlib.Core.List.{List}
 use lib.ListN.{length, drop-of-length-le}
 use lib.Seq.{drop-cons}

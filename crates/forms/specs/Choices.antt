@@ -1,12 +1,12 @@
 -- A reader of document 01 need not believe this file: forms that no record of it uses, one of two, and one that is left out where it is zero.
 use Prim.Native.Nat.{ℕ}
-use mathlib.Core.Bool.{Bool, true, false, not}
+use mathlib.Core.Bool.{Bool, true, not}
 use mathlib.Core.List.{List, [], _∷_}
 use lib.ListN.{length}
 use lib.Dec.{eqb}
 use Rattle.words.specs.Words.{_and_, _or_, if_then_else_}
 use Rattle.forms.specs.declared.Letters.{Letters}
-use Rattle.forms.specs.Form.{Found, nothing, found, Form, after}
+use Rattle.forms.specs.Form.{Found, nothing, found, Form}
 use Rattle.forms.specs.Compose.{byte, only, letters, all, each-written, each-read}
 
 infixr 25 _or-else_

@@ -1,10 +1,10 @@
 -- Forms, put together of forms.
 use Prim.Native.Nat.{ℕ, zero, suc, _+_, _*_, _/_, _%_, _^_}
-use mathlib.Core.Bool.{Bool, true, false, not}
+use mathlib.Core.Bool.{Bool, true, false}
 use mathlib.Core.List.{List, [], _∷_, _++_}
 use lib.ListN.{length}
 use lib.Dec.{eqb, leb, ltb}
-use Rattle.words.specs.Words.{_and_, _or_, if_then_else_}
+use Rattle.words.specs.Words.{_and_, if_then_else_}
 use Rattle.forms.specs.declared.Letters.{Letters}
 use Rattle.forms.specs.Form.{Found, nothing, found, Form, after}
 

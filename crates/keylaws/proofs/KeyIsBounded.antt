@@ -1,7 +1,7 @@
 -- A key has no more sequences than there are words of permitted places up to its length, and no part of it has more. Assumes nothing.
-use Prim.Native.Nat.{ℕ, zero, suc, _+_, _*_, _/_, _≤_, min}
+use Prim.Native.Nat.{ℕ, zero, suc, _+_, _*_, _/_, _≤_}
 use mathlib.Core.Bool.{Bool, true, false, cond}
-use mathlib.Core.Path.{_≡_, refl, sym, subst}
+use mathlib.Core.Path.{_≡_, sym, subst}
 use mathlib.Core.List.{List, [], _∷_, _++_, map}
 use native.Mathlib.Nat.{le-refl, le-trans, add-le-add, mul-le-mul, min-le-right, suc-mul}
 use native.Mathlib.Omega.{arith}

@@ -1,20 +1,18 @@
 -- What is found of an accepted question gives the code: its counts keep to the document, from refusals 20 and 21, its events are right, from 3 and
 -- 4, and its lists lie where the code takes them from.
-use Prim.Native.Nat.{ℕ, _+_, _-_, _*_, _≤_}
+use Prim.Native.Nat.{ℕ, _-_, _≤_}
 use mathlib.Core.Path.{_≡_, refl, sym, ap, _∙_}
 use mathlib.Core.Bool.{true}
 use mathlib.Core.List.{List, [], _∷_}
 use native.Mathlib.Omega.{arith}
-use lib.ListN.{length, take, drop, length-drop}
+use lib.ListN.{length, drop, length-drop}
 use lib.Seq.{length-take-le}
 use Rattle.words.proofs.Tests.{holds-is}
 use Rattle.block.specs.declared.line.Plan.{Plan}
 use Rattle.block.specs.declared.event.Event.{Event}
-use Rattle.block.specs.declared.reading.Reading.{Reading}
 use Rattle.block.specs.Line.{isPlan}
-use Rattle.block.specs.Situation.{Kept}
 use Rattle.situation.specs.Packed.{unpacked}
-use Rattle.lists.specs.Refusal.{_or-else_, event-refusal, events-refusal}
+use Rattle.lists.specs.Refusal.{event-refusal, events-refusal}
 use Rattle.lists.proofs.RightLists.{or-else-none, event-right, lists-right}
 use Rattle.records.specs.InBytes.{part, events-in, readings-in}
 use Rattle.rules.specs.Judged.{all-right}

@@ -1,6 +1,6 @@
 -- What a caller may count on of lists of which no check fails. Assumes nothing.
 use Prim.Native.Nat.{ℕ, zero, suc, _≤_, _<_}
-use mathlib.Core.Path.{_≡_, refl}
+use mathlib.Core.Path.{_≡_, refl, sym, ap, _∙_}
 use mathlib.Core.Bool.{Bool, true, false, not}
 use mathlib.Core.List.{List, [], _∷_}
 use native.Mathlib.Omega.{arith}
@@ -25,6 +25,13 @@ or-else-none (suc n) later h = let e : suc n ≡ 0 → ⊥ = λ z. omega arith i
 pub unless-none : (n : ℕ) (right : Bool) → (suc n) unless right ≡ 0 → right ≡ true
 unless-none n true h = refl
 unless-none n false h = absurd (omega arith)
+
+-- ---- the first refusal
+pub first-refusal : {r a : ℕ} (later : ℕ) → r ≡ a → (r ≡ 0 → ⊥) → a or-else later ≡ r
+first-refusal {r} later e z = ap (λ (b : ℕ). b or-else later) (sym e) ∙ rw (ne-eqb r 0 z)
+
+pub next-refusal : {r a : ℕ} (later : ℕ) → r ≡ a → r ≡ 0 → a or-else later ≡ later
+next-refusal later e z = ap (λ (b : ℕ). b or-else later) (sym e ∙ z)
 
 -- ---- item by item: d is what would be read past the end
 pub event-right : (p : Plan) (e : Event) → event-refusal p e ≡ 0 → (known e ≡ true) × (argument-right p e ≡ true)

@@ -1,9 +1,9 @@
 -- What an accepted question meets, and what a question is answered with that fails a check. Assumes nothing.
 use Prim.Native.Nat.{ℕ, _≤_}
-use mathlib.Core.Path.{_≡_, refl, sym, ap, _∙_}
+use mathlib.Core.Path.{_≡_, sym, ap, _∙_}
 use mathlib.Core.Bool.{Bool, true, false}
 use native.Mathlib.Omega.{arith}
-use borrow.Author.Tests.{leb-true, le-leb, ne-eqb, eq-eqb, eqb-true}
+use borrow.Author.Tests.{leb-true, le-leb, ne-eqb}
 use lib.ListN.{length}
 use lib.Dec.{T, eqb, leb}
 use Rattle.words.specs.Words.{_and_, if_then_else_}

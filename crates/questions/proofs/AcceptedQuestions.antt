@@ -4,7 +4,6 @@
 use Prim.Native.Nat.{ℕ, _≤_, _<_}
 use mathlib.Core.Path.{_≡_}
 use mathlib.Core.Bool.{false}
-use mathlib.Core.List.{List}
 use lib.ListN.{length, getD}
 use lib.Dec.{T}
 use Rattle.block.specs.Line.{isPlan}
@@ -17,9 +16,7 @@ use Rattle.lists.specs.Refusal.{listed-twice}
 use Rattle.lists.proofs.RightLists.{each-event, each-reading, ListsRight, lists-right}
 use Rattle.paper.specs.Question.{Question}
 use Rattle.paper.specs.Refusal.{refusalOf}
-use Rattle.paper.specs.Read.{readOf}
 use Rattle.paper.proofs.Accepted.{accepted}
-use Rattle.paper.proofs.ReadBytes.{accepted-bytes, read-question}
 
 module _ (q : Question) (ok : refusalOf q ≡ 0) where
   pub plan-is-one : T (isPlan (q .plan))

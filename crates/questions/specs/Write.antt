@@ -1,7 +1,7 @@
 -- "Writing an accepted question into lent room (the call returns its length, later bytes keep their values; any other question gets its refusal)"
 use Prim.Native.Nat.{ℕ}
-use mathlib.Core.List.{List, _++_}
-use lib.ListN.{length, drop}
+use mathlib.Core.List.{List}
+use lib.ListN.{length}
 use lib.Dec.{eqb, leb}
 use Rattle.words.specs.Words.{if_then_else_}
 use Rattle.forms.specs.Form.{laid}

@@ -1,12 +1,11 @@
 -- The codes of a sound situation say that situation, and fit their record; codes in range are those of the situation that they say. Assumes
 -- nothing.
 use Prim.Native.Nat.{ℕ, _<_}
-use mathlib.Core.Path.{_≡_, refl, _∙_}
-use mathlib.Core.Bool.{Bool, true}
+use mathlib.Core.Path.{_≡_}
+use mathlib.Core.Bool.{true}
 use native.Mathlib.Omega.{arith}
 use borrow.Author.Tests.{lt-ltb}
 use lib.Dec.{T, leb, ltb}
-use Rattle.words.specs.Words.{_and_}
 use Rattle.forms.proofs.Reading.{both}
 use Rattle.block.specs.Line.{isPlan}
 use Rattle.block.specs.Sound.{sound}

@@ -8,8 +8,8 @@ use native.Mathlib.Nat.{mul-le-mul, mul-comm}
 use borrow.Author.Tests.{le-leb, lt-leb, leb-true, leb-false}
 use mir.Syntax.{w8}
 use mir.Val.{Fits}
-use lib.ListN.{length, take, drop, getD, length-drop}
-use lib.Seq.{take-all, getD-drop, drop-drop}
+use lib.ListN.{length, drop, getD, length-drop}
+use lib.Seq.{getD-drop, drop-drop}
 use lib.Dec.{eqb, leb}
 use Rattle.words.specs.Words.{_and_, if_then_else_}
 use Rattle.forms.specs.declared.Letters.{Letters}
@@ -19,7 +19,8 @@ use Rattle.forms.specs.Choices.{times}
 use Rattle.forms.specs.Compose as Compose
 use Rattle.forms.specs.Laws.{Lawful}
 use Rattle.forms.specs.Taken.{taken}
-use Rattle.forms.proofs.Reading.{never, both}
+use Rattle.forms.proofs.Reading.{both}
+use Rattle.forms.proofs.InTurn.{stands-long as letters-long}
 use Rattle.forms.proofs.Lists.{times-law}
 use Rattle.forms.proofs.Sizes.{Bytes, bytes-on, Size, Takes, short-reads-nothing, times-takes}
 use Rattle.forms.proofs.Taken.{There, there-taken, none-taken, takes-there, letters-there, letters-not, letters-nothing, counted-there, counted-not, counted-nothing}
@@ -32,12 +33,8 @@ product h k = mul-le-mul h (omega arith)
 pub bytes-of : (s : List ℕ) → ((i : ℕ) → Fits w8 (getD s i 0)) → Bytes s
 bytes-of s h i = h i .fits
 
--- the part of a list from k on
-pub part-from : (k : ℕ) (s : List ℕ) → take (length s - k) (drop k s) ≡ drop k s
-part-from k s = take-all (length s - k) (drop k s) (omega (arith, length-drop k s))
-
--- ---- a mark and so many bytes
--- the mark, as the code compares it
+-- ---- two letters and so many bytes
+-- the letters, as the code compares them
 pub stands-at : (m : Letters) (s : List ℕ) → 2 ≤ length s → stands m s ≡ (eqb (getD s 0 0) (m .first) and eqb (getD s 1 0) (m .second))
 stands-at m [] h = absurd (omega arith)
 stands-at m (x ∷ []) h = absurd (omega arith)
@@ -64,16 +61,11 @@ module _ (m : Letters) (size : ℕ) (s : List ℕ) (h : stands-with m size s ≡
   unfolding stands-with
   stands-long = leb-true (2 + size) (length s) (both (stands m s) (leb (2 + size) (length s)) h .1)
 
-  pub stands-mark : stands m s ≡ true
+  pub letters-stand : stands m s ≡ true
   unfolding stands-with
-  stands-mark = both (stands m s) (leb (2 + size) (length s)) h .0
+  letters-stand = both (stands m s) (leb (2 + size) (length s)) h .0
 
-pub mark-long : (m : Letters) (s : List ℕ) → stands m s ≡ true → 2 ≤ length s
-mark-long m [] h = absurd (never false h refl)
-mark-long m (x ∷ []) h = absurd (never false h refl)
-mark-long m (x ∷ y ∷ s) h = omega arith
-
--- ---- a form of a fixed size after a mark
+-- ---- a form of a fixed size after two letters
 module _ {A : Type 0} (m : Letters) {n : ℕ} {F : Form A} (L : Lawful F) (Z : Size n F) (s : List ℕ) where
   pub fixed-not : stands-with m n s ≡ false → letters m F .read s ≡ nothing
   unfolding stands-with
@@ -81,13 +73,13 @@ module _ {A : Type 0} (m : Letters) {n : ℕ} {F : Form A} (L : Lawful F) (Z : S
     where
       by : (v : Bool) → stands m s ≡ v → v and leb (2 + n) (length s) ≡ false → letters m F .read s ≡ nothing
       by false e h = letters-not m F s e
-      by true e h = letters-nothing m F s (short-reads-nothing L Z (drop 2 s) (omega (arith, mark-long m s e, leb-false (2 + n) (length s) h, length-drop 2 s)))
+      by true e h = letters-nothing m F s (short-reads-nothing L Z (drop 2 s) (omega (arith, letters-long m s e, leb-false (2 + n) (length s) h, length-drop 2 s)))
 
 module _ {A : Type 0} (m : Letters) {n : ℕ} {F : Form A} (L : Lawful F) (Z : Takes n F) (s : List ℕ) (b : Bytes s) where
   pub fixed-there : stands-with m n s ≡ true → There (letters m F) (2 + n) s
   fixed-there h =
       let l : n ≤ length (drop 2 s) = omega (arith, stands-long m n s h, length-drop 2 s) in
-      letters-there m F s (stands-mark m n s h) (takes-there L Z (drop 2 s) (bytes-on 2 s b) l)
+      letters-there m F s (letters-stand m n s h) (takes-there L Z (drop 2 s) (bytes-on 2 s b) l)
 
   pub fixed-taken : taken (letters m F) s ≡ fixed m n s
   unfolding fixed
@@ -97,7 +89,7 @@ module _ {A : Type 0} (m : Letters) {n : ℕ} {F : Form A} (L : Lawful F) (Z : T
       by true e = there-taken (fixed-there e)
       by false e = none-taken (letters m F) s (fixed-not m L (Z .sized) s e)
 
--- ---- a count and so many values after a mark
+-- ---- a count and so many values after two letters
 module _ {A : Type 0} (m : Letters) (least most : ℕ) (F : Form A) (s : List ℕ) where
   count-is : getD (drop 2 s) 0 0 ≡ getD s 2 0
   count-is = getD-drop 2 s 0 0
@@ -109,7 +101,7 @@ module _ {A : Type 0} (m : Letters) (least most : ℕ) (F : Form A) (s : List �
   list-there {k} h c t =
       let l : 1 ≤ length (drop 2 s) = omega (arith, stands-long m 1 s h, length-drop 2 s) in
       let u : There (times (getD (drop 2 s) 0 0) F) k (drop 1 (drop 2 s)) = rw (count-is, items-are) t in
-      letters-there m (Compose.counted least most F) s (stands-mark m 1 s h) (counted-there least most F (drop 2 s) l (rw count-is c) u)
+      letters-there m (Compose.counted least most F) s (letters-stand m 1 s h) (counted-there least most F (drop 2 s) l (rw count-is c) u)
 
   pub list-count : leb least (getD s 2 0) and leb (getD s 2 0) most ≡ false → letters m (Compose.counted least most F) .read s ≡ nothing
   list-count c = letters-nothing m (Compose.counted least most F) s (counted-not least most F (drop 2 s) (rw count-is c))
@@ -127,12 +119,12 @@ module _ {A : Type 0} (m : Letters) (least most : ℕ) (F : Form A) (s : List �
     where
       by : (v : Bool) → stands m s ≡ v → v and leb 3 (length s) ≡ false → letters m (Compose.counted least most F) .read s ≡ nothing
       by false e h = letters-not m (Compose.counted least most F) s e
-      by true e h = letters-nothing m (Compose.counted least most F) s (no-count (drop 2 s) (omega (arith, mark-long m s e, leb-false 3 (length s) h, length-drop 2 s)))
+      by true e h = letters-nothing m (Compose.counted least most F) s (no-count (drop 2 s) (omega (arith, letters-long m s e, leb-false 3 (length s) h, length-drop 2 s)))
 
 -- what the code tests of such a record
 module _ (m : Letters) (least most width : ℕ) (s : List ℕ) where
   pub data CountedCase : Type 0 where
-    no-mark : stands-with m 1 s ≡ false → counted m least most width s ≡ 0 → CountedCase
+    no-letters : stands-with m 1 s ≡ false → counted m least most width s ≡ 0 → CountedCase
     bad-count : leb least (getD s 2 0) and leb (getD s 2 0) most ≡ false → counted m least most width s ≡ 0 → CountedCase
     too-short : length (drop 3 s) < getD s 2 0 * width → counted m least most width s ≡ 0 → CountedCase
     all-there : stands-with m 1 s ≡ true → leb least (getD s 2 0) and leb (getD s 2 0) most ≡ true → getD s 2 0 * width ≤ length (drop 3 s)
@@ -146,7 +138,7 @@ module _ (m : Letters) (least most width : ℕ) (s : List ℕ) where
       c = getD s 2 0
 
       by : (x : Bool) → stands-with m 1 s ≡ x → (y : Bool) → leb least (getD s 2 0) and leb (getD s 2 0) most ≡ y → (z : Bool) → leb (3 + width * getD s 2 0) (length s) ≡ z → CountedCase
-      by false e y f z g = no-mark e (rw e)
+      by false e y f z g = no-letters e (rw e)
       by true e false f z g = bad-count f (rw (e, f))
       by true e true f false g = too-short (omega (arith, leb-false (3 + width * getD s 2 0) (length s) g, length-drop 3 s, mul-comm width (getD s 2 0), stands-long m 1 s e)) (rw (e, f, g))
       by true e true f true g =
@@ -164,7 +156,7 @@ module _ {A : Type 0} (m : Letters) (least most : ℕ) {n : ℕ} {F : Form A} (L
   list-case = by (counted-case m least most n s)
     where
       by : CountedCase m least most n s → ListCase
-      by (no-mark h e) = list-is-not (list-not m least most F s h) e
+      by (no-letters h e) = list-is-not (list-not m least most F s h) e
       by (bad-count h e) = list-is-not (list-count m least most F s h) e
       by (too-short h e) = list-is-not (list-items m least most F s (short-reads-nothing (times-law L (getD s 2 0)) (times-takes L (getD s 2 0) Z .sized) (drop 3 s) h)) e
       by (all-there h c l e k) = list-is (list-there m least most F s h c (takes-there (times-law L (getD s 2 0)) (times-takes L (getD s 2 0) Z) (drop 3 s) (bytes-on 3 s b) l)) c e

@@ -2,7 +2,7 @@
 use Prim.Native.Nat.{ℕ, zero, suc, _+_, _-_, _*_, _/_, _≤_, _<_}
 use mathlib.Core.Path.{_≡_, refl, sym, ap, _∙_}
 use mathlib.Core.Bool.{true}
-use mathlib.Core.List.{List, [], _∷_, _++_}
+use mathlib.Core.List.{List, [], _∷_, _++_, append-nil}
 use native.Mathlib.Omega.{arith}
 use lib.ListN.{length, take, drop, getD, length-drop}
 use lib.Seq.{take-all}
@@ -139,10 +139,6 @@ codes-written-at c rest h =
     let ha = section 2 .written (c .helda) ++ rest in
     let hb = section 2 .written (c .heldb) ++ ha in
     rw (field-back 2 (c .occupied) hb (a .0), field-back 2 (c .heldb) ha (b .0), field-back 2 (c .helda) rest (b .1))
-
-pub append-nil : (s : List ℕ) → s ++ [] ≡ s
-append-nil [] = refl
-append-nil (b ∷ s) = ap (λ (t : List ℕ). b ∷ t) (append-nil s)
 
 -- a record by itself
 pub codes-alone : (s : List ℕ) (c : Codes) → whole situation s ≡ accepted c → codes-at s ≡ c

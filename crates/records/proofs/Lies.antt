@@ -1,18 +1,17 @@
 -- What lies where: of bytes that are a question, each record's bytes are what is written of it. Assumes nothing.
 use Prim.Native.Nat.{ℕ, _+_, _-_, _*_, _≤_}
 use mathlib.Core.Path.{_≡_, refl, sym, ap, _∙_}
-use mathlib.Core.Bool.{Bool, true, false}
-use mathlib.Core.List.{List, [], _∷_, _++_}
+use mathlib.Core.Bool.{true}
+use mathlib.Core.List.{List, [], _∷_, _++_, append-nil}
 use native.Mathlib.Omega.{arith}
 use borrow.Author.Tests.{leb-true}
-use lib.ListN.{length, take, drop, getD, length-append, length-drop}
+use lib.ListN.{length, take, drop, getD, length-drop}
 use lib.Seq.{take-at, drop-at, drop-drop, getD-drop}
 use lib.Dec.{leb}
 use Rattle.words.specs.Words.{_and_}
 use Rattle.block.specs.declared.event.Event.{Event}
 use Rattle.block.specs.declared.reading.Reading.{Reading}
-use Rattle.forms.specs.Form.{Form}
-use Rattle.forms.specs.Compose.{all, each-written}
+use Rattle.forms.specs.Compose.{each-written}
 use Rattle.forms.specs.Whole.{accepted, whole}
 use Rattle.forms.proofs.Reading.{both}
 use Rattle.records.specs.Plan.{plan}
@@ -22,7 +21,7 @@ use Rattle.records.specs.Question.{Parts, question}
 use Rattle.records.specs.Laid.{si-at, ev-at, rd-at, ln-at}
 use Rattle.records.specs.InBytes.{part, plan-at, codes-at, events-in, readings-in}
 use Rattle.records.proofs.QuestionLaws.{one-form}
-use Rattle.records.proofs.InBytes.{events-written-in, readings-written-in, codes-written-at, append-nil}
+use Rattle.records.proofs.InBytes.{events-written-in, readings-written-in, codes-written-at}
 
 -- ---- one record after n bytes
 module _ (s x post : List ℕ) (n : ℕ) (e : drop n s ≡ x ++ post) where

@@ -2,7 +2,7 @@
 use Prim.Native.Nat.{ℕ, _+_, _-_, _≤_, _<_}
 use mathlib.Core.Path.{_≡_, refl, sym, ap, _∙_}
 use mathlib.Core.Bool.{true, false}
-use mathlib.Core.List.{List, [], _∷_}
+use mathlib.Core.List.{List}
 use native.Mathlib.Omega.{arith}
 use lib.ListN.{length, take, drop, length-drop, drop-of-length-le}
 use lib.Seq.{drop-cons}
@@ -22,8 +22,8 @@ use Rattle.records.specs.Lists.{events, readings, answer-length}
 use Rattle.records.specs.Question.{Parts, question}
 use Rattle.records.specs.Laid.{laid-in}
 use Rattle.records.specs.declared.question.Laid.{Laid}
-use Rattle.records.proofs.Fronts.{part-from}
-use Rattle.records.proofs.RecordLaws.{plan-law, situation-law, events-law, readings-law, answer-length-law}
+use Rattle.records.proofs.InBytes.{part-from}
+use Rattle.records.proofs.RecordLaws.{plan-law, situation-law, events-law, readings-law}
 
 -- ---- a record that the code finds, or not: at the front
 pub found-first : {A : Type 0} {ms : List Letters} {F : Form A} (K : Lettered ms F) (s : List ℕ) {r : ℕ} → r ≡ taken F s → (r ≡ 0 → ⊥) → There F r s

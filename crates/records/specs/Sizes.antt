@@ -1,14 +1,14 @@
 -- A reader need not believe this file: how many bytes the code finds, in its words. proofs/ show that the forms take as many.
 use Prim.Native.Nat.{ℕ, _+_, _*_}
-use mathlib.Core.Bool.{Bool, true, not}
-use mathlib.Core.List.{List, [], _∷_}
+use mathlib.Core.Bool.{Bool}
+use mathlib.Core.List.{List}
 use lib.ListN.{length, getD}
-use lib.Dec.{eqb, leb}
-use Rattle.words.specs.Words.{_and_, _or_, if_then_else_}
+use lib.Dec.{leb}
+use Rattle.words.specs.Words.{_and_, if_then_else_}
 use Rattle.forms.specs.declared.Letters.{Letters}
 use Rattle.forms.specs.Compose.{stands}
 
--- the mark stands at the front, with at least so many bytes after it
+-- the letters stand at the front, with at least so many bytes after them
 unfoldable pub stands-with : Letters → ℕ → List ℕ → Bool
 stands-with m size s = stands m s and leb (2 + size) (length s)
 

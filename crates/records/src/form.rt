@@ -7,7 +7,7 @@ use forms::Letters;
 use words::wide;
 
 // Whether the letters stand at the front, with at least so many bytes after them.
-pub fn stands(s: &[u8], letters: Letters, size: usize) -> bool
+pub(crate) fn stands(s: &[u8], letters: Letters, size: usize) -> bool
     ensures { λ r. ⌜ r ≡ stands-with letters size (now (s .entry)) ⌝ }
 {
     if s.len() < 2 {
@@ -20,7 +20,7 @@ pub fn stands(s: &[u8], letters: Letters, size: usize) -> bool
 }
 
 // How many bytes a record of two letters and so many bytes takes; 0 where it does not stand there.
-pub fn fixed(s: &[u8], letters: Letters, size: usize) -> usize
+pub(crate) fn fixed(s: &[u8], letters: Letters, size: usize) -> usize
     ensures { λ r. ⌜ (r ≡ fixed letters size (now (s .entry))) × (r ≤ length (now (s .entry))) ⌝ }
 {
     if stands(s, letters, size) {
@@ -30,7 +30,7 @@ pub fn fixed(s: &[u8], letters: Letters, size: usize) -> usize
 }
 
 // The same of two letters, a count, least to most, and so many items of so many bytes each.
-pub fn counted(s: &[u8], letters: Letters, least: u8, most: u8, width: usize) -> usize
+pub(crate) fn counted(s: &[u8], letters: Letters, least: u8, most: u8, width: usize) -> usize
     requires { ⌜ width ≤ 3 ⌝ }
     ensures { λ r. ⌜ (r ≡ counted letters least most width (now (s .entry))) × (r ≤ length (now (s .entry))) ⌝ }
 {

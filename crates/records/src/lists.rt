@@ -34,19 +34,19 @@ pub const EVENT: usize = 2;
 
 pub const READING: usize = 3;
 
-pub fn take_events(s: &[u8]) -> usize
+pub(crate) fn take_events(s: &[u8]) -> usize
     ensures { λ r. ⌜ (r ≡ taken events (now (s .entry))) × (r ≤ length (now (s .entry))) ⌝ }
 {
     counted(s, EV, 1, MOST_EVENTS, EVENT)
 }
 
-pub fn take_readings(s: &[u8]) -> usize
+pub(crate) fn take_readings(s: &[u8]) -> usize
     ensures { λ r. ⌜ (r ≡ taken readings (now (s .entry))) × (r ≤ length (now (s .entry))) ⌝ }
 {
     counted(s, RD, 0, MOST_READINGS, READING)
 }
 
-pub fn take_length(s: &[u8]) -> usize
+pub(crate) fn take_length(s: &[u8]) -> usize
     ensures { λ r. ⌜ (r ≡ taken answer-length (now (s .entry))) × (r ≤ length (now (s .entry))) ⌝ }
 {
     fixed(s, LN, 1)

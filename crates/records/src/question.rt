@@ -18,7 +18,7 @@ pub struct Laid {
     pub ln: usize,
 }
 
-pub const NOWHERE: Laid = Laid {
+const NOWHERE: Laid = Laid {
     there: false,
     si: 0,
     ev: 0,

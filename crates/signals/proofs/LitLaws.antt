@@ -12,7 +12,7 @@ use Rattle.sections.specs.Sets.{both, either, _minus_, up-to, one-down, one-up}
 use Rattle.words.proofs.Tests.{and-at, is-holds, holds-is}
 use Rattle.sections.proofs.SetLaws.{none-has}
 use Rattle.sections.proofs.SetsOfSets.{in-both, in-either, in-minus, in-only, in-given, in-one-down, in-one-up, in-up-to}
-use Rattle.block.specs.Line.{isPlan, is-section, owner, first-section, is-first, is-exit, entrance, terminus, after, same-station, across-frontier}
+use Rattle.block.specs.Line.{isPlan, is-section, owner, first-section, is-exit, entrance, terminus, after, same-station, across-frontier}
 use Rattle.block.specs.Situation.{Kept, station, areaDirection, held, _has-exit-route}
 use Rattle.block.specs.declared.line.Plan.{Plan}
 use Rattle.block.specs.declared.line.Name.{Name}
@@ -20,8 +20,7 @@ use Rattle.block.specs.declared.line.Name.the-variants.{StationA, StationB}
 use Rattle.block.specs.declared.line.Direction.{Direction}
 use Rattle.block.specs.declared.line.Direction.the-variants.{TowardsA, TowardsB}
 use Rattle.signals.specs.Aspects.{runs, is-open}
-use Rattle.signals.specs.SignalSets.{those, off-line, in-area, leaves, arrives, block-lit, exit-lit, runs-somewhere, is-last, next-open, is-green, Moved, on-edge, number, shown}
-use Rattle.signals.specs.declared.lights.Lights.{Lights}
+use Rattle.signals.specs.SignalSets.{those, off-line, in-area, leaves, arrives, block-lit, exit-lit, runs-somewhere, next-open, is-green, Moved, on-edge, number}
 
 -- ---- the numbers of a plan
 pub record Sized (p : Plan) : Type 0 where

@@ -1,18 +1,17 @@
 -- What a signal shows is defined along the line; that it and the next one are enough to know it. Assumes nothing.
-use Prim.Native.Nat.{ℕ, zero, suc, _+_, _-_, _≤_, _<_}
-use mathlib.Core.Path.{_≡_, refl, sym, ap, ap₂, subst, _∙_}
+use Prim.Native.Nat.{ℕ, zero, suc, _-_}
+use mathlib.Core.Path.{_≡_, refl, sym, ap, ap₂, _∙_}
 use mathlib.Core.Bool.{Bool, true, false, not}
 use native.Mathlib.Omega.{arith}
 use borrow.Author.Tests.{eq-eqb, ne-eqb}
-use lib.Dec.{eqb}
 use Rattle.words.specs.Words.{_and_, _or_, if_then_else_}
 use Rattle.sections.specs.Sections.{_belongs-to_}
-use Rattle.block.specs.Line.{isPlan, is-section, is-signal, first-section, terminus, after, across-frontier, direction-of, section-of}
+use Rattle.block.specs.Line.{is-section, is-signal, terminus, after, across-frontier, direction-of, section-of}
 use Rattle.block.specs.Situation.{Kept, station}
 use Rattle.block.specs.declared.line.Plan.{Plan}
 use Rattle.block.specs.declared.line.Direction.{Direction}
 use Rattle.block.specs.declared.line.Direction.the-variants.{TowardsA, TowardsB}
-use Rattle.signals.specs.Aspects.{Aspect, red, yellow, green, code, is-red, signals-after, is-open, shows-before, entry-red, out-of-sight, shows-with, shows, aspect}
+use Rattle.signals.specs.Aspects.{red, yellow, green, code, is-red, signals-after, is-open, entry-red, out-of-sight, shows-with, shows, aspect}
 use Rattle.signals.specs.SignalSets.{those, off-line, next-open, is-last, is-green, number, shown, shown-at}
 use Rattle.signals.specs.declared.lights.Lights.{Lights}
 use Rattle.signals.proofs.LitLaws.{Within, within, green-is-open}

@@ -1,9 +1,7 @@
 // The aspects of all signals of a direction at once, as sets of their sections, and of one signal, read off them. The situation is kept as
 // A sees it.
 ghost use mathlib.Core.Path.{_≡_};
-ghost use Prim.Native.Nat.{_≤_};
 ghost use mathlib.Core.Bool.{true};
-ghost use Rattle.words.specs.Words.{if_then_else_};
 ghost use Rattle.sections.specs.Sections.{only};
 ghost use Rattle.block.specs.Line.{isPlan, first-section};
 ghost use Rattle.block.specs.declared.line.Direction.the-variants.{TowardsA, TowardsB};

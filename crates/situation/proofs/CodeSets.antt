@@ -9,7 +9,7 @@ use native.Mathlib.Omega.{arith}
 use borrow.Author.Tests.{ne-eqb}
 use lib.Dec.{T, eqb}
 use lib.Bits.{and-mask}
-use Rattle.words.specs.Words.{_and_, if_then_else_}
+use Rattle.words.specs.Words.{_and_}
 use Rattle.sections.specs.Sections.{none, _belongs-to_}
 use Rattle.sections.proofs.SetLaws.{none-has}
 use Rattle.sections.proofs.SetsOfSets.{in-both}

@@ -1,17 +1,15 @@
 -- The word with its two lowest halves exchanged, bit by bit. Assumes nothing.
-use Prim.Native.Nat.{ℕ, _+_, _-_, _*_, _/_, _%_, _^_, _<_, _≤_}
+use Prim.Native.Nat.{ℕ, _+_, _-_, _*_, _/_, _%_, _^_, _<_}
 use mathlib.Core.Path.{_≡_, sym, ap, fun-ext, _∙_}
-use mathlib.Core.Bool.{Bool, true, false}
 use native.Mathlib.Nat.{mod-lt}
 use native.Mathlib.Decide.{decLt}
 use native.Mathlib.Omega.{arith}
 use borrow.Author.Tests.{lt-ltb, le-ltb}
-use lib.Dec.{eqb, ltb}
+use lib.Dec.{eqb}
 use lib.Pow.{pow-pos, shr-shr, high, low}
-use Rattle.words.specs.Words.{if_then_else_}
 use Rattle.sections.specs.Sections.{_belongs-to_}
 use Rattle.sections.proofs.SetsOfSets.{low-bit}
-use Rattle.situation.specs.Packed.{Flags, flags-of, station-from, exchanged}
+use Rattle.situation.specs.Packed.{flags-of, station-from, exchanged}
 
 module _ (w : ℕ) where
   abbrev own : ℕ

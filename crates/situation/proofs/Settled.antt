@@ -3,7 +3,7 @@ use mathlib.Core.Path.{_≡_, refl, sym, ap, ap₂, _∙_}
 use mathlib.Core.Bool.{Bool, true, false}
 use Rattle.words.specs.Words.{_or_, if_then_else_}
 use Rattle.block.specs.Situation.{Situation, nobody, withPending}
-use Rattle.block.specs.Pending.{differ, changes, orientation-change, pending-settled}
+use Rattle.block.specs.Pending.{differ, changes, pending-settled}
 use Rattle.block.specs.declared.codes.Orientation.{Orientation}
 
 same : (a : Bool) → differ a a ≡ false

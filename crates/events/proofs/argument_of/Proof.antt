@@ -1,6 +1,4 @@
-use mathlib.Core.Path.{_∙_}
-use Rattle.events.proofs.InTable.{by-number, names-by-number}
-use borrow.Author.Needs.{needs}
+use Rattle.events.proofs.InTable.{names-by-number}
 use Rattle.events.proofs.argument_of.Statement.{statement}
 use Rattle.events.proofs.argument_of.Tie as tie
 

@@ -3,7 +3,9 @@ use Prim.Native.Nat.{ℕ, _/_, _%_}
 use mathlib.Core.Path.{_≡_, refl, ap, ap₂, _∙_}
 use mathlib.Core.List.{List, _∷_}
 use Rattle.words.specs.Words.{flag}
-use Rattle.block.specs.Situation.{Station}
+use Rattle.block.specs.declared.line.Direction.the-variants.{TowardsA, TowardsB}
+use Rattle.block.specs.Situation.{Station, held}
+use Rattle.situation.specs.Packed.{unpacked}
 use Rattle.block.specs.Codes.{code, orientation-code, annulment-code, route-code}
 use Rattle.records.specs.Situation.{bits, field-of, codes-of, situation}
 use borrow.Author.Needs.{needs}
@@ -18,6 +20,9 @@ e then f = ap₂ _∷_ e f
 returns : tie.Need-returns
 unfolding situation codes-of
 returns c =
+    let x = unpacked (c .before .before .before .before .before .before .before .before .before .before .before .before .before .before .before .before .before .before .before .before .before .before .before .before .before .before .before .before .before .before .before .before .before .before .before .before .before .before .before .before .before .args .x) in
+    let heldb : c .before .before .before .before .before .before .before .before .before .before .before .before .before .before .before .before .before .before .before .before .before .before .before .before .before .before .before .before .before .before .before .before .before .before .before .before .before .held .result ≡ held x TowardsB = c .before .before .before .before .before .before .before .before .before .before .before .before .before .before .before .before .before .before .before .before .before .before .before .before .before .before .before .before .before .before .before .before .before .before .before .before .before .held .ensures in
+    let helda : c .before .before .before .before .before .before .before .before .before .before .before .before .before .before .before .before .before .before .before .before .before .before .before .before .before .before .before .before .before .before .before .before .before .before .before .before .held2 .result ≡ held x TowardsA = c .before .before .before .before .before .before .before .before .before .before .before .before .before .before .before .before .before .before .before .before .before .before .before .before .before .before .before .before .before .before .before .before .before .before .before .before .held2 .ensures in
     refl then refl then
     (c .before .before .before .before .before .before .before .before .before .before .before .before .before .before .before .before .before .before .before .before .before .before .before .before .before .before .before .before .before .before .before .before .flag .ensures .0 ∙ ap flag (c .before .before .before .before .before .before .before .before .before .before .before .before .before .before .before .before .before .before .before .before .before .before .before .before .before .before .before .before .before .before .before .before .before .linked .ensures)) then
     (c .before .before .before .before .before .before .before .before .before .before .before .before .before .before .before .before .before .before .before .before .before .before .before .before .before .before .before .before .before .before .code .ensures ∙ ap orientation-code (c .before .before .before .before .before .before .before .before .before .before .before .before .before .before .before .before .before .before .before .before .before .before .before .before .before .before .before .before .before .before .before .orientation .ensures ∙ ap (λ (t : Station). t .orientation) (c .before .before .before .before .before .before .before .before .before .before .before .before .before .before .before .before .before .before .before .before .before .before .before .before .before .before .before .before .before .before .before .before .before .before .before .before .before .before .before .before .own .ensures))) then
@@ -34,10 +39,10 @@ returns c =
     (c .before .before .before .before .before .before .bits3 .ensures ∙ ap₂ bits (c .before .before .before .before .before .before .before .before .has-reminder .ensures ∙ ap (λ (t : Station). t .reminder) (c .before .before .before .before .before .before .before .before .before .before .before .before .before .before .before .before .before .before .before .before .before .before .before .before .before .before .before .before .before .before .before .before .before .before .before .before .before .before .before .before .own .ensures)) (c .before .before .before .before .before .before .before .has-reminder2 .ensures ∙ ap (λ (t : Station). t .reminder) (c .before .before .before .before .before .before .before .before .before .before .before .before .before .before .before .before .before .before .before .before .before .before .before .before .before .before .before .before .before .before .before .before .before .before .before .before .before .before .before .other .ensures))) then
     c .before .before .before .before .before .low-byte .ensures then
     c .before .before .before .before .low-byte2 .ensures then
-    (c .before .before .before .low-byte3 .ensures ∙ ap (λ (m : ℕ). field-of m % 256) (c .before .before .before .before .before .before .before .before .before .before .before .before .before .before .before .before .before .before .before .before .before .before .before .before .before .before .before .before .before .before .before .before .before .before .before .before .before .held .ensures)) then
-    (c .before .before .low-byte4 .ensures ∙ ap (λ (m : ℕ). field-of m / 256 % 256) (c .before .before .before .before .before .before .before .before .before .before .before .before .before .before .before .before .before .before .before .before .before .before .before .before .before .before .before .before .before .before .before .before .before .before .before .before .before .held .ensures)) then
-    (c .before .low-byte5 .ensures ∙ ap (λ (m : ℕ). field-of m % 256) (c .before .before .before .before .before .before .before .before .before .before .before .before .before .before .before .before .before .before .before .before .before .before .before .before .before .before .before .before .before .before .before .before .before .before .before .before .held2 .ensures)) then
-    (c .low-byte6 .ensures ∙ ap (λ (m : ℕ). field-of m / 256 % 256) (c .before .before .before .before .before .before .before .before .before .before .before .before .before .before .before .before .before .before .before .before .before .before .before .before .before .before .before .before .before .before .before .before .before .before .before .before .held2 .ensures)) then refl
+    (c .before .before .before .low-byte3 .ensures ∙ ap (λ (m : ℕ). field-of m % 256) heldb) then
+    (c .before .before .low-byte4 .ensures ∙ ap (λ (m : ℕ). field-of m / 256 % 256) heldb) then
+    (c .before .low-byte5 .ensures ∙ ap (λ (m : ℕ). field-of m % 256) helda) then
+    (c .low-byte6 .ensures ∙ ap (λ (m : ℕ). field-of m / 256 % 256) helda) then refl
 
 pub record-of-spec : {M : Type 1} → statement M
 record-of-spec = tie.close (tie.spec (λ c κs. search needs) (λ c κs. search needs) (λ c κs. search needs) (λ c κs. search needs) (λ c κs. search needs) (λ c κs. search needs) (λ c κs. search needs) (λ c κs. search needs) (λ c κs. search needs) (λ c κs. search needs) (λ c κs. search needs) (λ c κs. search needs) (λ c κs. search needs) (λ c κs. search needs) (λ c κs. search needs) (λ c κs. search needs) (λ c κs. search needs) (λ c κs. search needs) (λ c κs. search needs) (λ c κs. search needs) (λ c κs. search needs) (λ c κs. search needs) (λ c κs. search needs) (λ c κs. search needs) (λ c κs. search needs) (λ c κs. search needs) (λ c κs. search needs) (λ c κs. search needs) (λ c κs. search needs) (λ c κs. search needs) (λ c κs. search needs) (λ c κs. search needs) (λ c κs. search needs) (λ c κs. search needs) (λ c κs. search needs) (λ c κs. search needs) (λ c κs. search needs) (λ c κs. search needs) (λ c κs. search needs) (λ c κs. search needs) returns)

@@ -1,15 +1,14 @@
-use mathlib.Core.Path.{refl, sym, ap, _∙_}
+use mathlib.Core.Path.{sym, ap, _∙_}
 use native.Mathlib.Omega.{arith}
 use borrow.Author.Needs.{needs}
-use borrow.Author.Tests.{not-true, not-false, eq-eqb, ne-eqb, le-leb, lt-leb}
-use Prim.Native.Nat.{_≤_}
 use lib.ListN.{length}
 use Rattle.block.specs.Situation.{Kept}
 use Rattle.records.specs.Situation.{codes-of, situation}
 use Rattle.situation.specs.Packed.{unpacked}
 use Rattle.folvkin.specs.Block.{record-after}
 use Rattle.folvkin.proofs.RoomLeft.{room-enough}
-use Rattle.folvkin.proofs.CallsTold.{first-refusal, next-refusal, refused-told, refused-room, accepted-told, accepted-room}
+use Rattle.lists.proofs.RightLists.{first-refusal, next-refusal}
+use Rattle.folvkin.proofs.CallsTold.{refused-told, refused-room, accepted-told, accepted-room}
 use Rattle.folvkin.proofs.block_calls.event_written.Statement.{statement}
 use Rattle.folvkin.proofs.block_calls.event_written.Tie as tie
 

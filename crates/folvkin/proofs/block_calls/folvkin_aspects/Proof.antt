@@ -13,7 +13,8 @@ use Rattle.lists.specs.Refusal.{_unless_}
 use Rattle.paper.proofs.GivenThere.{found, not-given, is-given}
 use Rattle.folvkin.specs.Block.{all-aspects}
 use Rattle.folvkin.proofs.AspectsWritten.{all-long}
-use Rattle.folvkin.proofs.CallsTold.{first-refusal, next-refusal, refused-room}
+use Rattle.lists.proofs.RightLists.{first-refusal, next-refusal}
+use Rattle.folvkin.proofs.CallsTold.{refused-room}
 use Rattle.folvkin.proofs.block_calls.folvkin_aspects.Statement.{statement}
 use Rattle.folvkin.proofs.block_calls.folvkin_aspects.Tie as tie
 

@@ -1,6 +1,6 @@
 -- The aspects towards B are written, then those towards A into the part after them. Assumes nothing.
 use Prim.Native.Nat.{ℕ, _+_}
-use mathlib.Core.Path.{_≡_, ap, _∙_}
+use mathlib.Core.Path.{ap, _∙_}
 use mathlib.Core.List.{List, _++_}
 use lib.ListN.{drop}
 use borrow.Author.Needs.{needs}

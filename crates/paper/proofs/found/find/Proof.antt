@@ -1,6 +1,6 @@
 use native.Mathlib.Omega.{arith}
 use borrow.Author.Needs.{needs}
-use borrow.Author.Tests.{not-true, not-false, eq-eqb, ne-eqb}
+use borrow.Author.Tests.{not-true, not-false}
 use Rattle.paper.proofs.FoundThere.{none-lies, situation-long, lost, is-one, within, by-judged, by-lists, all-lie}
 use Rattle.paper.proofs.found.find.Statement.{statement}
 use Rattle.paper.proofs.found.find.Tie as tie

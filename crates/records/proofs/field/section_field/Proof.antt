@@ -4,7 +4,7 @@ use mathlib.Core.Path.{_≡_, refl, sym, _∙_}
 use native.Mathlib.Omega.{arith}
 use borrow.Author.Needs.{needs}
 use borrow.Author.Tests.{ltb-true}
-use lib.ListN.{length, drop, getD, length-drop}
+use lib.ListN.{drop, length-drop}
 use lib.Seq.{getD-drop}
 use Rattle.forms.specs.Form.{found}
 use Rattle.forms.specs.Compose.{section}

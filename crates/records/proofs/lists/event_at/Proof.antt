@@ -1,5 +1,3 @@
-use denote.Ref.{now}
-use native.Mathlib.Omega.{arith}
 use borrow.Author.Needs.{needs}
 use Rattle.records.proofs.InBytes.{event-at-place}
 use Rattle.records.proofs.lists.event_at.Statement.{statement}

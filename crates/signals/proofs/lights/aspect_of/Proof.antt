@@ -1,5 +1,5 @@
 use Prim.Native.Nat.{ℕ}
-use mathlib.Core.Path.{sym, ap, ap₂, _∙_}
+use mathlib.Core.Path.{sym, ap₂, _∙_}
 use Rattle.block.specs.declared.line.Direction.{Direction}
 use Rattle.situation.specs.Packed.{unpacked}
 use Rattle.signals.specs.SignalSets.{shown-at}

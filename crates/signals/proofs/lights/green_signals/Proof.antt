@@ -1,4 +1,4 @@
-use mathlib.Core.Path.{_≡_, subst, sym}
+use mathlib.Core.Path.{subst, sym}
 use Rattle.situation.specs.Packed.{unpacked}
 use Rattle.signals.specs.SignalSets.{those, is-green}
 use Rattle.signals.proofs.LitLaws.{green-set}

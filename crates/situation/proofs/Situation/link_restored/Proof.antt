@@ -1,6 +1,6 @@
-use mathlib.Core.Path.{refl, sym, ap, ap₂, _∙_}
+use mathlib.Core.Path.{refl, sym, ap, _∙_}
 use mathlib.Core.Bool.{Bool, false, true, not}
-use Rattle.block.specs.Situation.{Situation, none, reoriented, reoriented-where, withLink}
+use Rattle.block.specs.Situation.{none, reoriented, reoriented-where, withLink}
 use Rattle.block.specs.Pending.{pending-settled}
 use Rattle.situation.specs.Packed.{unpacked}
 use Rattle.situation.proofs.Settled.{stays}

@@ -1,6 +1,5 @@
 use Rattle.situation.specs.Packed.{station}
 use Rattle.situation.proofs.Exchanged.{others-flags}
-use borrow.Author.Needs.{needs}
 use Rattle.situation.proofs.Situation.other.Statement.{statement}
 use Rattle.situation.proofs.Situation.other.Tie as tie
 

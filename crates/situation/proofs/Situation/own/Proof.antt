@@ -1,6 +1,5 @@
 use mathlib.Core.Path.{refl}
 use Rattle.situation.specs.Packed.{station}
-use borrow.Author.Needs.{needs}
 use Rattle.situation.proofs.Situation.own.Statement.{statement}
 use Rattle.situation.proofs.Situation.own.Tie as tie
 

@@ -1,4 +1,4 @@
-use mathlib.Core.Path.{refl, sym, ap, ap₂, _∙_}
+use mathlib.Core.Path.{sym, ap, _∙_}
 use mathlib.Core.Bool.{Bool}
 use Rattle.words.specs.Words.{_or_, if_then_else_}
 use Rattle.block.specs.Situation.{nobody, withPending}
