@@ -13,6 +13,10 @@ use Rattle.block.specs.declared.line.Direction.the-variants.{TowardsA, T
 abbrev pub isPlan : Plan → Bool
 isPlan p = leb 2 (p .sections) and leb (p .sections) 16 and leb 1 (p .frontier) and ltb (p .frontier) (p .sections)
 
+-- "0 is accepted. 1 plan"
+abbrev pub plan-judged : Plan → ℕ
+plan-judged p = if isPlan p then 0 else 1
+
 abbrev pub is-section : Plan → ℕ → Bool
 is-section p k = leb 1 k and leb k (p .sections)
 

@@ -1,8 +1,7 @@
 // The line: n sections, numbered from A, and a frontier. Sections 1 to b are A's area, the others B's.
 ghost use mathlib.Core.Path.{_≡_};
 ghost use Prim.Native.Nat.{_+_, _-_};
-ghost use Rattle.block.specs.Judged.{plan-judged};
-ghost use Rattle.block.specs.Line.{isPlan, is-section, owner, first-section, is-first, station-named, opposite, away, toward, entrance, terminus, before, across-frontier, direction-of, section-of, is-signal, is-exit, is-block-signal};
+ghost use Rattle.block.specs.Line.{isPlan, plan-judged, is-section, owner, first-section, is-first, station-named, opposite, away, toward, entrance, terminus, before, across-frontier, direction-of, section-of, is-signal, is-exit, is-block-signal};
 use super::refused::ACCEPTED;
 use super::refused::NO_PLAN;
 

@@ -11,7 +11,7 @@ use Rattle.keylaws.specs.Sheet.{grows, put}
 use Rattle.block.specs.declared.line.Plan.{Plan}
 use Rattle.block.specs.declared.event.Event.{Event}
 use Rattle.block.specs.declared.reading.Reading.{Reading}
-use Rattle.block.specs.Situation.{Situation}
+use Rattle.rulebook.specs.Situation.{Situation}
 use Rattle.rules.specs.RulesOf.{all-hold, rulesOf}
 use Rattle.engine.specs.declared.Ask.{Ask}
 use Rattle.engine.specs.declared.Node.{Node}

@@ -8,7 +8,7 @@ ghost use Rattle.keylaws.specs.Parts.{handed, partAfter};
 ghost use Rattle.keylaws.specs.Walk.{aims, starts};
 ghost use Rattle.situation.specs.Packed.{unpacked};
 ghost use Rattle.block.specs.Line.{isPlan};
-ghost use Rattle.block.specs.Apply.{reached};
+ghost use Rattle.rulebook.specs.Apply.{reached};
 ghost use Rattle.records.specs.InBytes.{events-in, readings-in};
 ghost use Rattle.rules.specs.RulesOf.{rulesOf};
 ghost use Rattle.rules.specs.Judged.{all-right};

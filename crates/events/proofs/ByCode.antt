@@ -1,16 +1,16 @@
 -- An arm of the code's match is the kind of the table that has its code; a code that no arm has is no kind. Assumes nothing.
 use Prim.Native.Nat.{ℕ}
 use mathlib.Core.Path.{_≡_, refl, sym, ap, _∙_}
-use Rattle.block.specs.Situation.{Situation, Kept, seen-from, kept-from}
+use Rattle.rulebook.specs.Situation.{Situation, Kept, seen-from, kept-from}
 use lib.Dec.{T}
-use Rattle.block.specs.Table.{Kind, station, table, unknown, kind-of}
-use Rattle.block.specs.Apply.{refuses, leads, refusal-at, led-at, spot-named, own-refusal, reached}
+use Rattle.rulebook.specs.Table.{Kind, station, table, unknown, kind-of}
+use Rattle.rulebook.specs.Apply.{refuses, leads, refusal-at, led-at, spot-named, own-refusal, reached}
 use Rattle.block.specs.declared.line.Plan.{Plan}
 use Rattle.block.specs.declared.line.Name.{Name}
 use Rattle.block.specs.declared.line.Name.the-variants.{StationA, StationB}
 use Rattle.block.specs.declared.event.Event.{Event}
 use Rattle.block.specs.declared.event.Spot.{Spot}
-use Rattle.situation.proofs.Settled.{stays}
+use Rattle.rulebook.proofs.Settled.{stays}
 use Rattle.events.proofs.InTable.{within, None-of-the-first, past, no-kind}
 
 module _ (p : Plan) (x : Kept) (e : Event) where

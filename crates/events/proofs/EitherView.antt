@@ -3,13 +3,13 @@
 use Prim.Native.Nat.{ℕ}
 use mathlib.Core.Path.{_≡_, refl, sym, ap, _∙_}
 use Rattle.sections.specs.Sections.{_with-section_, _without-section_}
-use Rattle.block.specs.Situation.{Situation, Kept, seen-from, kept-from, held, with-held, withTrack, withOccupied}
-use Rattle.block.specs.Table.{Kind, Bslb, BslbOff, Occupied, Freed}
-use Rattle.block.specs.Apply.{refuses, leads, refusal-at, led-at}
+use Rattle.rulebook.specs.Situation.{Situation, Kept, seen-from, kept-from, held, with-held, withTrack, withOccupied}
+use Rattle.rulebook.specs.Table.{Kind, Bslb, BslbOff, Occupied, Freed}
+use Rattle.rulebook.specs.Apply.{refuses, leads, refusal-at, led-at}
 use Rattle.block.specs.declared.line.Name.{Name}
 use Rattle.block.specs.declared.line.Name.the-variants.{StationA, StationB}
 use Rattle.block.specs.declared.event.Spot.{Spot}
-use Rattle.situation.proofs.Settled.{stays}
+use Rattle.rulebook.proofs.Settled.{stays}
 
 -- a refusal that the view does not change
 abbrev Seen-alike : Kind → Spot → Kept → Type 0

@@ -9,7 +9,7 @@ use borrow.Author.Tests.{ne-eqb, le-leb, lt-leb}
 use lib.Dec.{T, eqb, leb, leb→le, eqb→eq}
 use Rattle.words.specs.Words.{_and_, _or_, if_then_else_}
 use Rattle.words.proofs.Tests.{and-at}
-use Rattle.block.specs.Table.{Kind, table, unknown, find, kind-of}
+use Rattle.rulebook.specs.Table.{Kind, table, unknown, find, kind-of}
 
 -- ---- a test of n numbers from lo on, computed
 abbrev each-from : (ℕ → Bool) → ℕ → ℕ → Bool

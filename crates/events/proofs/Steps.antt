@@ -6,8 +6,8 @@ use native.Mathlib.Omega.{arith}
 use borrow.Author.Tests.{ne-eqb}
 use lib.Dec.{eqb}
 use Rattle.words.specs.Words.{if_then_else_}
-use Rattle.block.specs.Situation.{Kept}
-use Rattle.block.specs.Apply.{known, argument-right, accepted, refused, own-refusal, reached, acted, stepped, Outcome}
+use Rattle.rulebook.specs.Situation.{Kept}
+use Rattle.rulebook.specs.Apply.{known, argument-right, accepted, refused, own-refusal, reached, acted, stepped, Outcome}
 use Rattle.block.specs.declared.line.Plan.{Plan}
 use Rattle.block.specs.declared.event.Event.{Event}
 

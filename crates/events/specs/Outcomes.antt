@@ -1,5 +1,5 @@
 -- A reader need not believe this file: what the code hands back says this.
-use Rattle.block.specs.Apply.{Outcome}
+use Rattle.rulebook.specs.Apply.{Outcome}
 use Rattle.situation.specs.Packed.{unpacked}
 use Rattle.events.specs.declared.Applied.{Applied}
 

@@ -1,7 +1,7 @@
 // Orders and happenings: an event on a situation as it is kept.
 ghost use mathlib.Core.Path.{_≡_};
-ghost use Rattle.block.specs.Table.{station, section, kind-of, Occupied};
-ghost use Rattle.block.specs.Apply.{fits, known, argument-right, spot-named, led-at, own-refusal, reached, stepped, applied};
+ghost use Rattle.rulebook.specs.Table.{station, section, kind-of, Occupied};
+ghost use Rattle.rulebook.specs.Apply.{fits, known, argument-right, spot-named, led-at, own-refusal, reached, stepped, applied};
 ghost use Rattle.situation.specs.Packed.{unpacked};
 ghost use Rattle.events.specs.Outcomes.{outcome};
 use block::event::Event;

@@ -1,7 +1,7 @@
 -- The marked examples hold: each row is computed, and example 10 is the theorem over every float. Assumes nothing.
 use mathlib.Core.Path.{refl}
 use lib.Ieee.{round}
-use Rattle.block.specs.Apply.{refusal-at, led-at, acted, stepped}
+use Rattle.rulebook.specs.Apply.{refusal-at, led-at, acted, stepped}
 use Rattle.signals.specs.Aspects.{shows}
 use Rattle.signals.specs.Readings.{value-read}
 use Rattle.marking.specs.Sheet.{marked}

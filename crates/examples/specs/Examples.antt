@@ -5,10 +5,10 @@ use mathlib.Core.List.{List, [], _∷_}
 use mathlib.Core.Path.{_≡_}
 use lib.Dec.{T, eqb}
 use Rattle.words.specs.Words.{_and_}
-use Rattle.block.specs.Situation.{Kept, fresh}
+use Rattle.rulebook.specs.Situation.{Kept, fresh}
 use Rattle.block.specs.declared.line.Plan.{Plan}
-use Rattle.block.specs.Table.{Sobb, Cobb, Afbli, Afble, Bilc, Bslg, ExitNormal, ExitSpecial, Occupied, LinkLost, LinkRestored}
-use Rattle.block.specs.Apply.{event, applied}
+use Rattle.rulebook.specs.Table.{Sobb, Cobb, Afbli, Afble, Bilc, Bslg, ExitNormal, ExitSpecial, Occupied, LinkLost, LinkRestored}
+use Rattle.rulebook.specs.Apply.{event, applied}
 use Rattle.signals.specs.Readings.{value-read}
 use Rattle.marking.specs.Exact.{exactAnswer}
 use Rattle.marking.specs.Sheet.{marked}

@@ -18,7 +18,7 @@ use Rattle.block.specs.Line.{isPlan, is-section}
 use Rattle.block.specs.declared.line.Plan.{Plan}
 use Rattle.block.specs.declared.line.Direction.{Direction}
 use Rattle.block.specs.declared.line.Direction.the-variants.{TowardsA, TowardsB}
-use Rattle.block.specs.Situation.{Kept}
+use Rattle.rulebook.specs.Situation.{Kept}
 use Rattle.records.proofs.InBytes.{part-from}
 use Rattle.signals.specs.Aspects.{code, shows, is-open, aspect}
 use Rattle.signals.specs.SignalSets.{those, is-green, shown}

@@ -9,9 +9,9 @@ use Rattle.words.proofs.Tests.{holds-is}
 use Rattle.forms.specs.Whole.{accepted, whole}
 use Rattle.forms.proofs.Whole as Whole
 use Rattle.block.specs.Line.{isPlan}
-use Rattle.block.specs.Sound.{sound}
-use Rattle.block.specs.Judged.{judged}
-use Rattle.block.specs.Situation.{Kept}
+use Rattle.rulebook.specs.Sound.{sound}
+use Rattle.rulebook.specs.Judged.{judged}
+use Rattle.rulebook.specs.Situation.{Kept}
 use Rattle.block.specs.declared.line.Plan.{Plan}
 use Rattle.records.specs.Plan.{plan}
 use Rattle.records.specs.Situation.{situation-of, situation}

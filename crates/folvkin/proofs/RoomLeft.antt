@@ -4,10 +4,10 @@ use mathlib.Core.Path.{_≡_, sym, _∙_}
 use native.Mathlib.Omega.{arith}
 use borrow.Author.Tests.{leb-true}
 use lib.Dec.{leb}
-use Rattle.block.specs.Judged.{judged}
+use Rattle.rulebook.specs.Judged.{judged}
 use Rattle.block.specs.declared.line.Plan.{Plan}
 use Rattle.block.specs.declared.event.Event.{Event}
-use Rattle.block.specs.Situation.{Kept}
+use Rattle.rulebook.specs.Situation.{Kept}
 use Rattle.lists.specs.Refusal.{event-refusal}
 use Rattle.lists.proofs.RightLists.{or-else-none, unless-none}
 use Rattle.folvkin.specs.Block.{before-event, longest-situation}

@@ -7,11 +7,12 @@ use lib.ListN.{length, getD}
 use Rattle.words.specs.Words.{if_then_else_}
 use Rattle.forms.specs.Form.{laid}
 use Rattle.forms.specs.Whole.{Whole, refused as no-form, accepted, whole}
-use Rattle.block.specs.Judged.{plan-judged, judged}
+use Rattle.block.specs.Line.{plan-judged}
+use Rattle.rulebook.specs.Judged.{judged}
 use Rattle.block.specs.declared.line.Plan.{Plan}
 use Rattle.block.specs.declared.event.Event.{Event}
-use Rattle.block.specs.Situation.{Kept}
-use Rattle.block.specs.Apply.{event, own-refusal, reached}
+use Rattle.rulebook.specs.Situation.{Kept}
+use Rattle.rulebook.specs.Apply.{event, own-refusal, reached}
 use Rattle.signals.specs.Aspects.{aspect}
 use Rattle.signals.specs.Readings.{reading, nothing-told}
 use Rattle.signals.specs.declared.readings.Told.{Told}

@@ -12,7 +12,7 @@ use lib.Dec.{eqb}
 use Rattle.words.specs.Words.{_and_}
 use Rattle.sections.specs.Sections.{_belongs-to_, _with-section_}
 use Rattle.sections.proofs.SetLaws.{has-with-same, has-with-other}
-use Rattle.block.specs.Apply.{event}
+use Rattle.rulebook.specs.Apply.{event}
 use Rattle.block.specs.declared.event.Event.{Event}
 use Rattle.forms.proofs.Reading.{both, never}
 use Rattle.records.specs.InBytes.{events-in}

@@ -12,7 +12,7 @@ use Rattle.words.proofs.Tests.{is-holds}
 use Rattle.block.specs.declared.line.Plan.{Plan}
 use Rattle.block.specs.declared.event.Event.{Event}
 use Rattle.block.specs.declared.reading.Reading.{Reading}
-use Rattle.block.specs.Apply.{known, argument-right}
+use Rattle.rulebook.specs.Apply.{known, argument-right}
 use Rattle.signals.specs.Readings.{reading-in-range}
 use Rattle.forms.proofs.Reading.{both}
 use Rattle.lists.specs.Refusal.{_unless_, _or-else_, event-refusal, events-refusal, listed-twice, readings-in-range, lists-refusal}

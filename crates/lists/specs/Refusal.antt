@@ -8,7 +8,7 @@ use Rattle.words.specs.Words.{_and_, _or_, if_then_else_}
 use Rattle.block.specs.declared.line.Plan.{Plan}
 use Rattle.block.specs.declared.event.Event.{Event}
 use Rattle.block.specs.declared.reading.Reading.{Reading}
-use Rattle.block.specs.Apply.{known, argument-right}
+use Rattle.rulebook.specs.Apply.{known, argument-right}
 use Rattle.signals.specs.Readings.{reading-in-range}
 
 infix 30 _unless_

@@ -2,7 +2,7 @@
 ghost use mathlib.Core.Path.{_≡_};
 ghost use Prim.Native.Nat.{_+_, _*_, _/_, _%_, _<_};
 ghost use mathlib.Core.Bool.{true, false};
-ghost use Rattle.block.specs.Apply.{event};
+ghost use Rattle.rulebook.specs.Apply.{event};
 ghost use Rattle.records.specs.InBytes.{events-in, readings-in};
 ghost use Rattle.lists.specs.Refusal.{event-refusal, events-refusal, listed, listed-twice, readings-in-range, lists-refusal};
 use block::event::Event;

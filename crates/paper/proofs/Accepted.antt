@@ -8,9 +8,9 @@ use lib.ListN.{length}
 use lib.Dec.{T, eqb, leb}
 use Rattle.words.specs.Words.{_and_, if_then_else_}
 use Rattle.forms.proofs.Reading.{both}
-use Rattle.block.specs.Judged.{judged}
+use Rattle.rulebook.specs.Judged.{judged}
 use Rattle.block.specs.Line.{isPlan}
-use Rattle.block.specs.Sound.{sound}
+use Rattle.rulebook.specs.Sound.{sound}
 use Rattle.lists.specs.Refusal.{_unless_, _or-else_, lists-refusal}
 use Rattle.lists.proofs.RightLists.{or-else-none, unless-none}
 use Rattle.paper.specs.Question.{Question}

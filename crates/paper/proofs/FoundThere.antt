@@ -6,11 +6,11 @@ use mathlib.Core.List.{List}
 use native.Mathlib.Omega.{arith}
 use lib.ListN.{length, length as size, drop, getD, length-drop}
 use lib.Seq.{length-take-le}
-use Rattle.block.specs.Judged.{judged}
+use Rattle.rulebook.specs.Judged.{judged}
 use Rattle.block.specs.declared.line.Plan.{Plan}
 use Rattle.block.specs.declared.event.Event.{Event}
 use Rattle.block.specs.declared.reading.Reading.{Reading}
-use Rattle.block.specs.Situation.{Kept}
+use Rattle.rulebook.specs.Situation.{Kept}
 use Rattle.forms.specs.Whole.{Whole, refused as no-form, accepted, whole}
 use Rattle.records.specs.Situation.{situation-of}
 use Rattle.records.specs.Question.{Parts, question}

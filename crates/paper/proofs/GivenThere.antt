@@ -6,7 +6,7 @@ use mathlib.Core.List.{List}
 use native.Mathlib.Omega.{arith}
 use lib.ListN.{length}
 use Rattle.block.specs.declared.line.Plan.{Plan}
-use Rattle.block.specs.Situation.{Kept}
+use Rattle.rulebook.specs.Situation.{Kept}
 use Rattle.forms.specs.Whole.{Whole, refused as no-form, accepted, whole}
 use Rattle.forms.proofs.Taken.{There}
 use Rattle.forms.proofs.InTurn.{there-long}

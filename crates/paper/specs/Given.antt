@@ -4,7 +4,7 @@ use mathlib.Core.List.{List}
 use Prim.Native.Nat.{ℕ}
 use Rattle.forms.specs.Whole.{Whole, refused as no-form, accepted, whole}
 use Rattle.block.specs.declared.line.Plan.{Plan}
-use Rattle.block.specs.Situation.{Kept}
+use Rattle.rulebook.specs.Situation.{Kept}
 use Rattle.records.specs.Plan.{plan}
 use Rattle.records.specs.Situation.{Codes, situation-of, situation}
 

@@ -4,7 +4,7 @@ use mathlib.Core.List.{List}
 use Rattle.block.specs.declared.line.Plan.{Plan}
 use Rattle.block.specs.declared.event.Event.{Event}
 use Rattle.block.specs.declared.reading.Reading.{Reading}
-use Rattle.block.specs.Situation.{Kept}
+use Rattle.rulebook.specs.Situation.{Kept}
 use Rattle.records.specs.Situation.{codes-of, situation-of}
 use Rattle.records.specs.Question.{Parts, question}
 

@@ -5,7 +5,7 @@ use mathlib.Core.List.{List, []}
 use lib.Dec.{eqb}
 use Rattle.words.specs.Words.{if_then_else_}
 use Rattle.forms.specs.Whole.{Whole, refused as no-form, accepted, whole}
-use Rattle.block.specs.Situation.{fresh, withLink}
+use Rattle.rulebook.specs.Situation.{fresh, withLink}
 use Rattle.records.specs.Plan.{plan-of}
 use Rattle.records.specs.Question.{Parts, question}
 use Rattle.paper.specs.Question.{Question, question-of}

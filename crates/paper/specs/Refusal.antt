@@ -5,7 +5,7 @@ use mathlib.Core.Bool.{Bool}
 use lib.ListN.{length}
 use lib.Dec.{leb}
 use Rattle.words.specs.Words.{_and_}
-use Rattle.block.specs.Judged.{judged}
+use Rattle.rulebook.specs.Judged.{judged}
 use Rattle.lists.specs.Refusal.{_unless_, _or-else_, lists-refusal}
 use Rattle.paper.specs.Question.{Question}
 

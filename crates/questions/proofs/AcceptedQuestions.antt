@@ -7,8 +7,8 @@ use mathlib.Core.Bool.{false}
 use lib.ListN.{length, getD}
 use lib.Dec.{T}
 use Rattle.block.specs.Line.{isPlan}
-use Rattle.block.specs.Sound.{sound}
-use Rattle.block.specs.Apply.{known, argument-right}
+use Rattle.rulebook.specs.Sound.{sound}
+use Rattle.rulebook.specs.Apply.{known, argument-right}
 use Rattle.block.specs.declared.event.Event.{Event}
 use Rattle.block.specs.declared.reading.Reading.{Reading}
 use Rattle.signals.specs.Readings.{reading-in-range}

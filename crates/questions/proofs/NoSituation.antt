@@ -11,10 +11,10 @@ use Rattle.words.specs.Words.{_and_}
 use Rattle.sections.specs.Sections.{_belongs-to_}
 use Rattle.words.proofs.Tests.{and-at, holds-is, is-holds}
 use Rattle.block.specs.Line.{isPlan}
-use Rattle.block.specs.Sound.{sound}
-use Rattle.block.specs.Judged.{judged}
+use Rattle.rulebook.specs.Sound.{sound}
+use Rattle.rulebook.specs.Judged.{judged}
 use Rattle.block.specs.declared.line.Plan.{Plan}
-use Rattle.block.specs.Situation.{Kept}
+use Rattle.rulebook.specs.Situation.{Kept}
 use Rattle.forms.specs.Whole.{accepted, whole}
 use Rattle.forms.proofs.Reading.{fails}
 use Rattle.records.specs.Situation.{Codes, in-range, said, situation-of, sections-of}

@@ -5,7 +5,7 @@ use mathlib.Core.Path.{_≡_, refl, sym, ap, _∙_}
 use mathlib.Core.Bool.{Bool, true, false}
 use mathlib.Core.List.{List}
 use Rattle.words.proofs.Tests.{holds-is}
-use Rattle.block.specs.Sound.{sound}
+use Rattle.rulebook.specs.Sound.{sound}
 use Rattle.block.specs.declared.line.Plan.{Plan}
 use Rattle.records.specs.Situation.{Codes, in-range, situation-of}
 use Rattle.records.specs.Question.{Parts, question}

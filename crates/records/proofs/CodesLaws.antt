@@ -8,9 +8,9 @@ use borrow.Author.Tests.{lt-ltb}
 use lib.Dec.{T, leb, ltb}
 use Rattle.forms.proofs.Reading.{both}
 use Rattle.block.specs.Line.{isPlan}
-use Rattle.block.specs.Sound.{sound}
+use Rattle.rulebook.specs.Sound.{sound}
 use Rattle.block.specs.declared.line.Plan.{Plan}
-use Rattle.block.specs.Situation.{Kept}
+use Rattle.rulebook.specs.Situation.{Kept}
 use Rattle.records.specs.Situation.{Codes, field-of, codes-of, in-range, said, situation-of, situation}
 use Rattle.records.proofs.SoundParts.{Encodable, encodable}
 use Rattle.records.proofs.CodeByCode.{flag-in-range, code-in-range, bits-in-range, flag-back, code-first, code-second, bits-A, bits-B, sections-back, flag-again, code-again, bits-again, field-again}

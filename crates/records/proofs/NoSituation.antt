@@ -11,9 +11,9 @@ use lib.Pow.{pow-pos}
 use Rattle.sections.specs.Sections.{_belongs-to_, sections-up-to}
 use Rattle.sections.proofs.SetLaws.{nothing-over}
 use Rattle.words.proofs.Tests.{and-at, holds-is}
-use Rattle.block.specs.Sound.{sound}
+use Rattle.rulebook.specs.Sound.{sound}
 use Rattle.block.specs.declared.line.Plan.{Plan}
-use Rattle.block.specs.Situation.{Situation}
+use Rattle.rulebook.specs.Situation.{Situation}
 use Rattle.records.proofs.SoundParts.{sound-sets}
 use Rattle.records.specs.Situation.{Codes, in-range, situation-of, sections-of}
 

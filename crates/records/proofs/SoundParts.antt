@@ -11,12 +11,12 @@ use Rattle.words.specs.Words.{_and_, _or_}
 use Rattle.sections.specs.Sections.{_belongs-to_, sections-up-to}
 use Rattle.words.proofs.Tests.{and-at, holds-is, not-equal}
 use Rattle.block.specs.Line.{isPlan}
-use Rattle.block.specs.Sound as block
-use Rattle.block.specs.Sound.{stationSound, annulled-is-none, routed-is-open, normal-not-annulled, special-not-AFBLI, link-up-agrees, link-down-apart, pending-sound, may-ask, stationsSound, held-sound, setsSound, sound}
+use Rattle.rulebook.specs.Sound as block
+use Rattle.rulebook.specs.Sound.{stationSound, annulled-is-none, routed-is-open, normal-not-annulled, special-not-AFBLI, link-up-agrees, link-down-apart, pending-sound, may-ask, stationsSound, held-sound, setsSound, sound}
 use Rattle.block.specs.declared.line.Plan.{Plan}
 use Rattle.block.specs.declared.line.Direction.the-variants.{TowardsA, TowardsB}
-use Rattle.block.specs.Situation.{Station}
-use Rattle.block.specs.Situation.{Situation}
+use Rattle.rulebook.specs.Situation.{Station}
+use Rattle.rulebook.specs.Situation.{Situation}
 
 -- the sets hold sections of the line, and no exit signal is held
 pub record SoundSets (p : Plan) (x : Situation) : Type 0 where

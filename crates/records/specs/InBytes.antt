@@ -2,7 +2,7 @@
 use Prim.Native.Nat.{ℕ, _-_}
 use mathlib.Core.List.{List, [], _∷_}
 use lib.ListN.{take, drop, getD}
-use Rattle.block.specs.Apply.{event}
+use Rattle.rulebook.specs.Apply.{event}
 use Rattle.block.specs.declared.line.Plan.{Plan}
 use Rattle.block.specs.declared.event.Event.{Event}
 use Rattle.block.specs.declared.reading.Reading.{Reading}

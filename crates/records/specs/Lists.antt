@@ -2,7 +2,7 @@
 use Prim.Native.Nat.{ℕ, _-_}
 use mathlib.Core.List.{List}
 use lib.ListN.{getD}
-use Rattle.block.specs.Apply.{event}
+use Rattle.rulebook.specs.Apply.{event}
 use Rattle.block.specs.declared.event.Event.{Event}
 use Rattle.block.specs.declared.reading.Reading.{Reading}
 use Rattle.forms.specs.declared.Letters.{Letters}

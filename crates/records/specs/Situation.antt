@@ -4,7 +4,7 @@ use Prim.Native.Nat.{ℕ, _+_, _*_, _/_, _%_}
 use mathlib.Core.Bool.{Bool, true, false}
 use lib.Dec.{eqb, leb}
 use Rattle.words.specs.Words.{_and_, if_then_else_, flag}
-use Rattle.block.specs.Situation.{Station, Kept, fresh, withLink, withPending}
+use Rattle.rulebook.specs.Situation.{Station, Kept, fresh, withLink, withPending}
 use Rattle.block.specs.Codes.{orientation-code, annulment-code, route-code, pending-code}
 use Rattle.block.specs.declared.codes.Orientation.{Orientation}
 use Rattle.block.specs.declared.codes.Annulment.{Annulment}

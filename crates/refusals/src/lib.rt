@@ -3,8 +3,8 @@
 ghost use mathlib.Core.Path.{_≡_};
 ghost use Rattle.words.specs.Words.{if_then_else_};
 ghost use Rattle.refusals.specs.InOrder.{check};
-ghost use Rattle.block.specs.Table.{Sobb, Cobb, Afbli, Afble, Dafbl, Bilc, Dilc, Bslg, BslgOff, Bslb, BslbOff, Reminder, ReminderOff, ExitNormal, ExitSpecial, ExitReleased, Entry, EntryReleased, Occupied, Freed, LinkLost, LinkRestored};
-ghost use Rattle.block.specs.Apply.{refuses};
+ghost use Rattle.rulebook.specs.Table.{Sobb, Cobb, Afbli, Afble, Dafbl, Bilc, Dilc, Bslg, BslgOff, Bslb, BslbOff, Reminder, ReminderOff, ExitNormal, ExitSpecial, ExitReleased, Entry, EntryReleased, Occupied, Freed, LinkLost, LinkRestored};
+ghost use Rattle.rulebook.specs.Apply.{refuses};
 ghost use Rattle.situation.specs.Packed.{unpacked};
 use block::event::Spot;
 use block::refused::ALREADY;

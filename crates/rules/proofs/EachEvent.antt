@@ -8,8 +8,8 @@ use lib.ListN.{length, getD}
 use Rattle.words.specs.Words.{_and_}
 use Rattle.block.specs.declared.line.Plan.{Plan}
 use Rattle.block.specs.declared.event.Event.{Event}
-use Rattle.block.specs.Apply.{event, known, argument-right, own-refusal, reached}
-use Rattle.block.specs.Situation.{Kept}
+use Rattle.rulebook.specs.Apply.{event, known, argument-right, own-refusal, reached}
+use Rattle.rulebook.specs.Situation.{Kept}
 use Rattle.events.proofs.Steps.{judged-refusal, leads-on}
 use Rattle.forms.proofs.Reading.{both}
 use Rattle.records.specs.Lists.{event-at}

@@ -7,7 +7,7 @@ use native.Mathlib.Omega.{arith}
 use lib.ListN.{length, drop, getD}
 use Rattle.words.specs.Words.{_and_}
 use Rattle.block.specs.declared.line.Plan.{Plan}
-use Rattle.block.specs.Situation.{Situation}
+use Rattle.rulebook.specs.Situation.{Situation}
 use Rattle.records.specs.InBytes.{readings-in}
 use Rattle.records.proofs.InBytes.{readings-step, readings-end}
 use Rattle.rules.specs.RulesOf.{all-hold}

@@ -12,9 +12,9 @@ use Rattle.words.specs.Words.{_and_, if_then_else_}
 use Rattle.sections.specs.Sections.{none, _belongs-to_}
 use Rattle.sections.proofs.SetsOfSets.{in-both}
 use Rattle.words.proofs.Tests.{and-true}
-use Rattle.block.specs.Situation.{line-free}
+use Rattle.rulebook.specs.Situation.{line-free}
 use Rattle.block.specs.declared.line.Plan.{Plan}
-use Rattle.block.specs.Situation.{Situation}
+use Rattle.rulebook.specs.Situation.{Situation}
 use Rattle.situation.specs.Packed.{unpacked}
 use Rattle.situation.specs.CodeSets.{own-codes, other-codes}
 use Rattle.situation.proofs.CodeSets.{six-all, by-value, agrees}

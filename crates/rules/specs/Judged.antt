@@ -4,7 +4,7 @@ use mathlib.Core.List.{List, [], _∷_}
 use Rattle.words.specs.Words.{_and_}
 use Rattle.block.specs.declared.line.Plan.{Plan}
 use Rattle.block.specs.declared.event.Event.{Event}
-use Rattle.block.specs.Apply.{known, argument-right}
+use Rattle.rulebook.specs.Apply.{known, argument-right}
 
 unfoldable pub all-right : Plan → List Event → Bool
 all-right p [] = true

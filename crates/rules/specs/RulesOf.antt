@@ -8,8 +8,8 @@ use Rattle.keylaws.specs.Rules.{Rules}
 use Rattle.block.specs.declared.line.Plan.{Plan}
 use Rattle.block.specs.declared.event.Event.{Event}
 use Rattle.block.specs.declared.reading.Reading.{Reading}
-use Rattle.block.specs.Situation.{Kept}
-use Rattle.block.specs.Apply.{stepped, Outcome}
+use Rattle.rulebook.specs.Situation.{Kept}
+use Rattle.rulebook.specs.Apply.{stepped, Outcome}
 use Rattle.signals.specs.Readings.{reading-holds}
 use Rattle.records.specs.Lists.{event-at}
 

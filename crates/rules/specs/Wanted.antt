@@ -9,7 +9,7 @@ use lib.Dec.{eqb}
 use Rattle.words.specs.Words.{_and_, if_then_else_}
 use Rattle.sections.specs.Sections.{none, _belongs-to_}
 use Rattle.sections.specs.Sets.{both}
-use Rattle.block.specs.Situation.{Kept}
+use Rattle.rulebook.specs.Situation.{Kept}
 use Rattle.block.specs.declared.line.Plan.{Plan}
 use Rattle.block.specs.declared.reading.Reading.{Reading}
 use Rattle.block.specs.Line.{isPlan}

@@ -7,7 +7,7 @@ use lib.Dec.{eqb}
 use Rattle.words.specs.Words.{_or_, if_then_else_}
 use Rattle.sections.specs.Sections.{_belongs-to_}
 use Rattle.block.specs.Line.{station-named}
-use Rattle.block.specs.Situation.{Station, Kept, line-free, station as Block·station}
+use Rattle.rulebook.specs.Situation.{Station, Kept, line-free, station as Block·station}
 use Rattle.block.specs.Codes.{orientation-code, annulment-code, route-code}
 use Rattle.block.specs.declared.line.Plan.{Plan}
 use Rattle.block.specs.declared.line.Name.the-variants.{StationA, StationB}

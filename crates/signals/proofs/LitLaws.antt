@@ -13,7 +13,7 @@ use Rattle.words.proofs.Tests.{and-at, is-holds, holds-is}
 use Rattle.sections.proofs.SetLaws.{none-has}
 use Rattle.sections.proofs.SetsOfSets.{in-both, in-either, in-minus, in-only, in-given, in-one-down, in-one-up, in-up-to}
 use Rattle.block.specs.Line.{isPlan, is-section, owner, first-section, is-exit, entrance, terminus, after, same-station, across-frontier}
-use Rattle.block.specs.Situation.{Kept, station, areaDirection, held, _has-exit-route}
+use Rattle.rulebook.specs.Situation.{Kept, station, areaDirection, held, _has-exit-route}
 use Rattle.block.specs.declared.line.Plan.{Plan}
 use Rattle.block.specs.declared.line.Name.{Name}
 use Rattle.block.specs.declared.line.Name.the-variants.{StationA, StationB}

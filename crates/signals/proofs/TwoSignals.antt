@@ -7,7 +7,7 @@ use borrow.Author.Tests.{eq-eqb, ne-eqb}
 use Rattle.words.specs.Words.{_and_, _or_, if_then_else_}
 use Rattle.sections.specs.Sections.{_belongs-to_}
 use Rattle.block.specs.Line.{is-section, is-signal, terminus, after, across-frontier, direction-of, section-of}
-use Rattle.block.specs.Situation.{Kept, station}
+use Rattle.rulebook.specs.Situation.{Kept, station}
 use Rattle.block.specs.declared.line.Plan.{Plan}
 use Rattle.block.specs.declared.line.Direction.{Direction}
 use Rattle.block.specs.declared.line.Direction.the-variants.{TowardsA, TowardsB}

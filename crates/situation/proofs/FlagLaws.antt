@@ -8,7 +8,7 @@ use lib.Dec.{eqb}
 use Rattle.words.specs.Words.{if_then_else_}
 use Rattle.sections.specs.Sections.{_belongs-to_}
 use Rattle.sections.proofs.SetLaws.{has-with-same, has-with-other, has-without-same, has-without-other}
-use Rattle.block.specs.Situation.{Situation}
+use Rattle.rulebook.specs.Situation.{Situation}
 use Rattle.situation.specs.Packed.{Flags, flags-of, with-flags, unpacked, flagged}
 use Rattle.situation.specs.declared.Situation.{Situation as Packed}
 

@@ -1,5 +1,5 @@
 pub mod FlagLaws
 pub mod Exchanged
-pub mod Settled
 pub mod Taken
 pub mod CodeSets
+pub mod HasWords

@@ -3,9 +3,9 @@ use mathlib.Core.Path.{_≡_, refl, sym, ap}
 use mathlib.Core.Bool.{Bool, true, false, not, true≢false, false≢true}
 use Rattle.words.specs.Words.{_or_, if_then_else_}
 use Rattle.sections.specs.Sections.{_with-section_}
-use Rattle.block.specs.Place.{Place}
-use Rattle.block.specs.Situation.{Situation, no-annulment, _annulled, _annulled-by_, withOwn, withTrack, withOccupied}
-use Rattle.block.specs.Events.{annulment-kept, taken}
+use Rattle.rulebook.specs.Place.{Place}
+use Rattle.rulebook.specs.Situation.{Situation, no-annulment, _annulled, _annulled-by_, withOwn, withTrack, withOccupied}
+use Rattle.rulebook.specs.Events.{annulment-kept, taken}
 use Rattle.block.specs.declared.codes.Annulment.{Annulment}
 
 pub or-true : (b : Bool) → (b or true) ≡ true

@@ -4,7 +4,7 @@ use mathlib.Core.Bool.{Bool}
 use lib.Dec.{ltb}
 use Rattle.words.specs.Words.{if_then_else_}
 use Rattle.sections.specs.Sections.{_belongs-to_, _with-section_, _without-section_}
-use Rattle.block.specs.Situation.{Station, Situation}
+use Rattle.rulebook.specs.Situation.{Station, Situation}
 use Rattle.situation.specs.declared.Situation.{Situation as Packed}
 use Rattle.situation.specs.declared.Station.{Station as PackedStation}
 

@@ -1,6 +1,6 @@
 // What is asked of a situation.
 ghost use mathlib.Core.Path.{_≡_};
-ghost use Rattle.block.specs.Situation.{any-exit-route, track-clear, line-free, one-out-one-in, turnedRound, seen-from, held, station as Block·station};
+ghost use Rattle.rulebook.specs.Situation.{any-exit-route, track-clear, line-free, one-out-one-in, turnedRound, seen-from, held, station as Block·station};
 ghost use Rattle.situation.specs.Packed.{station, unpacked};
 use super::Situation;
 use super::Station;

@@ -1,6 +1,6 @@
 // A situation with one thing changed.
 ghost use mathlib.Core.Path.{_≡_};
-ghost use Rattle.block.specs.Situation.{_becomes_, _annulled-by_, _with-exit_, withEntry, withBilc, withBslg, withReminder, withOwn, withPending, withTrack, withOccupied, withLink, with-held, reoriented};
+ghost use Rattle.rulebook.specs.Situation.{_becomes_, _annulled-by_, _with-exit_, withEntry, withBilc, withBslg, withReminder, withOwn, withPending, withTrack, withOccupied, withLink, with-held, reoriented};
 ghost use Rattle.situation.specs.Packed.{unpacked};
 use super::Signals;
 use super::Situation;

@@ -1,6 +1,6 @@
 // Whether section k becoming occupied is expected. The situation is as k's owner s sees it: own is s.
 ghost use mathlib.Core.Path.{_≡_};
-ghost use Rattle.block.specs.Place.{follows, expected-out, expected-in, expected};
+ghost use Rattle.rulebook.specs.Place.{follows, expected-out, expected-in, expected};
 ghost use Rattle.situation.specs.Packed.{unpacked};
 use super::Situation;
 use block::line::Direction;

@@ -1,9 +1,9 @@
 // Where an accepted event leads, own being the station that the event names: a method for each event code, and the next situation, whole.
 ghost use mathlib.Core.Path.{_≡_};
-ghost use Rattle.block.specs.Place.{place};
-ghost use Rattle.block.specs.Events.{annul, exit, taken};
-ghost use Rattle.block.specs.Table.{Sobb, Cobb, Afbli, Afble, Dafbl, Bilc, Dilc, Bslg, BslgOff, Bslb, BslbOff, Reminder, ReminderOff, ExitNormal, ExitSpecial, ExitReleased, Entry, EntryReleased, Occupied, Freed, LinkLost, LinkRestored};
-ghost use Rattle.block.specs.Apply.{leads};
+ghost use Rattle.rulebook.specs.Place.{place};
+ghost use Rattle.rulebook.specs.Events.{annul, exit, taken};
+ghost use Rattle.rulebook.specs.Table.{Sobb, Cobb, Afbli, Afble, Dafbl, Bilc, Dilc, Bslg, BslgOff, Bslb, BslbOff, Reminder, ReminderOff, ExitNormal, ExitSpecial, ExitReleased, Entry, EntryReleased, Occupied, Freed, LinkLost, LinkRestored};
+ghost use Rattle.rulebook.specs.Apply.{leads};
 ghost use Rattle.situation.specs.Packed.{unpacked};
 use super::Situation;
 use block::codes::Annulment;

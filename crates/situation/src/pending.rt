@@ -1,6 +1,6 @@
 // Pending is cleared by any orientation change, any accepted AFBLI or AFBLE, any section becoming occupied, and link loss.
 ghost use mathlib.Core.Path.{_≡_};
-ghost use Rattle.block.specs.Pending.{changes, orientation-change, pending-settled};
+ghost use Rattle.rulebook.specs.Pending.{changes, orientation-change, pending-settled};
 ghost use Rattle.situation.specs.Packed.{station, unpacked};
 use super::Situation;
 use super::Station;

@@ -1,6 +1,6 @@
 // What is asked of a station.
 ghost use mathlib.Core.Path.{_≡_};
-ghost use Rattle.block.specs.Situation.{_is-out, _is-in, _under-AFBLI, _under-AFBLE, _annulled, _has-exit-route, areaDirection};
+ghost use Rattle.rulebook.specs.Situation.{_is-out, _is-in, _under-AFBLI, _under-AFBLE, _annulled, _has-exit-route, areaDirection};
 ghost use Rattle.situation.specs.Packed.{station};
 use super::Station;
 use super::flags::AFBLE;

@@ -11,11 +11,11 @@ use lib.Pow.{pow-pos}
 use Rattle.words.specs.Words.{_and_, _or_}
 use Rattle.sections.specs.Sections.{_belongs-to_, sections-up-to}
 use Rattle.words.proofs.Tests.{and-true, and-false}
-use Rattle.block.specs.Situation.{_is-out, _is-in, one-out-one-in, both-none}
-use Rattle.block.specs.Sound.{stationSound, link-up-agrees, link-down-apart, pending-sound, stationsSound, setsSound, sound}
+use Rattle.rulebook.specs.Situation.{_is-out, _is-in, one-out-one-in, both-none}
+use Rattle.rulebook.specs.Sound.{stationSound, link-up-agrees, link-down-apart, pending-sound, stationsSound, setsSound, sound}
 use Rattle.block.specs.declared.line.Plan.{Plan}
-use Rattle.block.specs.Situation.{Station}
-use Rattle.block.specs.Situation.{Situation}
+use Rattle.rulebook.specs.Situation.{Station}
+use Rattle.rulebook.specs.Situation.{Situation}
 
 -- ---- tests
 both-hold : (a b : Bool) → a and b ≡ true → (a ≡ true) × (b ≡ true)

@@ -1,8 +1,8 @@
 // A plan and a situation in it, judged: 0 where it is one, else the refusal. A test for each clause of the document.
 ghost use mathlib.Core.Path.{_≡_};
 ghost use Rattle.words.specs.Words.{_and_};
-ghost use Rattle.block.specs.Sound.{stationSound, link-up-agrees, link-down-apart, may-ask, pending-sound, setsSound, sound};
-ghost use Rattle.block.specs.Judged.{judged};
+ghost use Rattle.rulebook.specs.Sound.{stationSound, link-up-agrees, link-down-apart, may-ask, pending-sound, setsSound, sound};
+ghost use Rattle.rulebook.specs.Judged.{judged};
 ghost use Rattle.situation.specs.Packed.{station, unpacked};
 use block::line::Direction;
 use block::line::Plan;

@@ -13,7 +13,7 @@ use Rattle.keylaws.specs.Parts.{Part, handed}
 use Rattle.keylaws.specs.Walk.{tries, walk}
 use Rattle.keylaws.specs.Sheet.{grow, grows, put}
 use Rattle.keylaws.proofs.WalkSteps.{try-none, try-refused, try-full, try-on, node-leaf, node-full, node-on}
-use Rattle.block.specs.Situation.{Situation}
+use Rattle.rulebook.specs.Situation.{Situation}
 use Rattle.block.specs.declared.event.Event.{Event}
 use Rattle.block.specs.declared.reading.Reading.{Reading}
 use Rattle.situation.specs.Packed.{unpacked}

@@ -1,6 +1,6 @@
 use mathlib.Core.Path.{ap, _∙_}
-use Rattle.block.specs.Table.{section, Sobb, Cobb, Afbli, Afble, Dafbl, Bilc, Dilc, Bslg, BslgOff, Bslb, BslbOff, Reminder, ReminderOff, ExitNormal, ExitSpecial, ExitReleased, Entry, EntryReleased, Occupied, Freed, LinkLost, LinkRestored}
-use Rattle.block.specs.Apply.{leads, led-at, spot-named}
+use Rattle.rulebook.specs.Table.{section, Sobb, Cobb, Afbli, Afble, Dafbl, Bilc, Dilc, Bslg, BslgOff, Bslb, BslbOff, Reminder, ReminderOff, ExitNormal, ExitSpecial, ExitReleased, Entry, EntryReleased, Occupied, Freed, LinkLost, LinkRestored}
+use Rattle.rulebook.specs.Apply.{leads, led-at, spot-named}
 use Rattle.block.specs.declared.event.Spot.{Spot}
 use Rattle.situation.specs.Packed.{unpacked}
 use Rattle.events.proofs.EitherView.{bslb-led, bslb-off-led, freed-led}

@@ -1,7 +1,7 @@
 use mathlib.Core.Path.{ap, _∙_}
-use Rattle.block.specs.Situation.{seen-from, kept-from}
-use Rattle.block.specs.Table.{Occupied}
-use Rattle.block.specs.Apply.{leads, led-at}
+use Rattle.rulebook.specs.Situation.{seen-from, kept-from}
+use Rattle.rulebook.specs.Table.{Occupied}
+use Rattle.rulebook.specs.Apply.{leads, led-at}
 use borrow.Author.Needs.{needs}
 use Rattle.events.proofs.occupied_at.Statement.{statement}
 use Rattle.events.proofs.occupied_at.Tie as tie

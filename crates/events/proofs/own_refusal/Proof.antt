@@ -1,6 +1,6 @@
 use mathlib.Core.Path.{ap, _∙_}
-use Rattle.block.specs.Table.{section, Sobb, Cobb, Afbli, Afble, Dafbl, Bilc, Dilc, Bslg, BslgOff, Bslb, BslbOff, Reminder, ReminderOff, ExitNormal, ExitSpecial, ExitReleased, Entry, EntryReleased, Occupied, Freed, LinkLost, LinkRestored}
-use Rattle.block.specs.Apply.{refuses, spot-named}
+use Rattle.rulebook.specs.Table.{section, Sobb, Cobb, Afbli, Afble, Dafbl, Bilc, Dilc, Bslg, BslgOff, Bslb, BslbOff, Reminder, ReminderOff, ExitNormal, ExitSpecial, ExitReleased, Entry, EntryReleased, Occupied, Freed, LinkLost, LinkRestored}
+use Rattle.rulebook.specs.Apply.{refuses, spot-named}
 use Rattle.block.specs.declared.event.Spot.{Spot}
 use Rattle.situation.specs.Packed.{unpacked}
 use Rattle.events.proofs.EitherView.{bslb-refused, bslb-off-refused, occupied-refused, freed-refused}

@@ -1,6 +1,6 @@
 use mathlib.Core.Path.{sym, _∙_}
 use borrow.Author.Tests.{not-true, not-false}
-use Rattle.block.specs.Apply.{stepped}
+use Rattle.rulebook.specs.Apply.{stepped}
 use Rattle.situation.specs.Packed.{unpacked}
 use Rattle.events.proofs.Steps.{judged-refusal}
 use borrow.Author.Needs.{needs}

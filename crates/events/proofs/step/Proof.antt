@@ -1,6 +1,6 @@
 use Prim.Native.Nat.{ℕ}
 use mathlib.Core.Path.{sym, ap, _∙_}
-use Rattle.block.specs.Apply.{accepted, refused}
+use Rattle.rulebook.specs.Apply.{accepted, refused}
 use Rattle.situation.specs.Packed.{unpacked}
 use Rattle.events.proofs.Steps.{as-accepted, as-refused}
 use borrow.Author.Needs.{needs}

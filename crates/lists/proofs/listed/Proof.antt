@@ -1,7 +1,7 @@
 use mathlib.Core.Path.{_≡_, sym, ap, _∙_}
 use borrow.Author.Needs.{needs}
 use lib.ListN.{length}
-use Rattle.block.specs.Apply.{event}
+use Rattle.rulebook.specs.Apply.{event}
 use Rattle.records.specs.InBytes.{events-in}
 use Rattle.records.proofs.InBytes.{part-from, events-step, events-end}
 use Rattle.lists.specs.Refusal.{listed}

@@ -1,5 +1,5 @@
-use Rattle.block.specs.Place.{place}
-use Rattle.block.specs.Table.{Afbli, Afble}
+use Rattle.rulebook.specs.Place.{place}
+use Rattle.rulebook.specs.Table.{Afbli, Afble}
 use Rattle.situation.specs.Packed.{unpacked}
 use Rattle.refusals.proofs.InOrder.{by-run, in-order}
 use borrow.Author.Needs.{needs}

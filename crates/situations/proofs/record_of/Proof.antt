@@ -4,7 +4,7 @@ use mathlib.Core.Path.{_≡_, refl, ap, ap₂, _∙_}
 use mathlib.Core.List.{List, _∷_}
 use Rattle.words.specs.Words.{flag}
 use Rattle.block.specs.declared.line.Direction.the-variants.{TowardsA, TowardsB}
-use Rattle.block.specs.Situation.{Station, held}
+use Rattle.rulebook.specs.Situation.{Station, held}
 use Rattle.situation.specs.Packed.{unpacked}
 use Rattle.block.specs.Codes.{code, orientation-code, annulment-code, route-code}
 use Rattle.records.specs.Situation.{bits, field-of, codes-of, situation}

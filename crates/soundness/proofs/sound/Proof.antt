@@ -1,7 +1,7 @@
 -- The clauses in the order in which they are asked. Assumes nothing.
 use mathlib.Core.Path.{sym, ap, _∙_}
 use borrow.Author.Tests.{not-true, not-false}
-use Rattle.block.specs.Sound.{stationSound}
+use Rattle.rulebook.specs.Sound.{stationSound}
 use Rattle.soundness.proofs.SoundLaws.{pending-fails, orientations-fail, own-fails, other-decides, sets-fail, stations-decide}
 use Rattle.situation.specs.Packed.{unpacked}
 use borrow.Author.Needs.{needs}

@@ -1,7 +1,7 @@
 -- A station that is neither annulled nor routed is judged by its orientation. Assumes nothing.
 use mathlib.Core.Path.{sym, ap₂, _∙_}
 use Rattle.words.specs.Words.{_or_}
-use Rattle.block.specs.Situation.{_annulled, _has-exit-route}
+use Rattle.rulebook.specs.Situation.{_annulled, _has-exit-route}
 use Rattle.situation.specs.Packed.{station}
 use Rattle.soundness.proofs.SoundLaws.{orientation-decides}
 use Rattle.soundness.proofs.Neither.{neither}

@@ -2,7 +2,7 @@ use mathlib.Core.Path.{sym, ap, _∙_}
 use native.Mathlib.Omega.{arith}
 use borrow.Author.Needs.{needs}
 use lib.ListN.{length}
-use Rattle.block.specs.Situation.{Kept}
+use Rattle.rulebook.specs.Situation.{Kept}
 use Rattle.records.specs.Situation.{codes-of, situation}
 use Rattle.situation.specs.Packed.{unpacked}
 use Rattle.folvkin.specs.Block.{record-after}

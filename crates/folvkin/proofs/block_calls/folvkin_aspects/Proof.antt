@@ -7,7 +7,7 @@ use lib.Dec.{leb}
 use lib.ListN.{length}
 use Rattle.words.proofs.Tests.{holds-is}
 use Rattle.block.specs.Line.{isPlan}
-use Rattle.block.proofs.PlanLaws.{judged-plan}
+use Rattle.rulebook.proofs.Judged.{judged-plan}
 use Rattle.situation.specs.Packed.{unpacked}
 use Rattle.lists.specs.Refusal.{_unless_}
 use Rattle.paper.proofs.GivenThere.{found, not-given, is-given}

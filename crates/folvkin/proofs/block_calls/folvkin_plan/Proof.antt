@@ -1,6 +1,6 @@
 use mathlib.Core.Path.{sym, ap, _∙_}
 use borrow.Author.Needs.{needs}
-use Rattle.block.specs.Judged.{plan-judged}
+use Rattle.block.specs.Line.{plan-judged}
 use Rattle.forms.proofs.WholeTaken.{none-whole, more-than-whole, whole-there}
 use Rattle.records.proofs.RecordLaws.{plan-law}
 use Rattle.records.proofs.QuestionRead.{found-first}

@@ -8,7 +8,7 @@ use borrow.Author.Tests.{eq-eqb, ne-eqb}
 use mathlib.Core.Bool.{Bool, cond}
 use denote.Ref.{now}
 use Rattle.keylaws.specs.Run.{Outcome, runFrom, run, stopped}
-use Rattle.block.specs.Situation.{Kept}
+use Rattle.rulebook.specs.Situation.{Kept}
 use Rattle.situation.specs.Packed.{unpacked}
 use Rattle.records.specs.InBytes.{events-in, readings-in}
 use Rattle.records.proofs.InBytes.{events-counted}

@@ -6,9 +6,9 @@ use Rattle.words.specs.Words.{if_then_else_}
 use Rattle.sections.specs.Sections.{none, only}
 use Rattle.sections.specs.Sets.{either, _minus_}
 use Rattle.block.specs.Line.{first-section, terminus}
-use Rattle.block.specs.Situation.{station}
+use Rattle.rulebook.specs.Situation.{station}
 use Rattle.block.specs.declared.line.Name.{Name}
-use Rattle.block.specs.Situation.{Station}
+use Rattle.rulebook.specs.Situation.{Station}
 use Rattle.situation.specs.Packed.{unpacked}
 use Rattle.signals.specs.SignalSets.{next-open}
 use Rattle.signals.specs.SignalSets.{those}

@@ -1,7 +1,7 @@
 use mathlib.Core.Path.{sym, ap, _∙_}
 use mathlib.Core.Bool.{Bool}
 use Rattle.words.specs.Words.{if_then_else_}
-use Rattle.block.specs.Situation.{Situation, none, reoriented, withOwn, _becomes_, _annulled-by_}
+use Rattle.rulebook.specs.Situation.{Situation, none, reoriented, withOwn, _becomes_, _annulled-by_}
 use Rattle.situation.specs.Packed.{unpacked}
 use borrow.Author.Needs.{needs}
 use Rattle.situation.proofs.Situation.annul.Statement.{statement}

@@ -1,9 +1,9 @@
 use Prim.Native.Nat.{ℕ}
 use mathlib.Core.Path.{refl, ap, _∙_}
 use Rattle.sections.specs.Sections.{_without-section_}
-use Rattle.block.specs.Situation.{with-held}
+use Rattle.rulebook.specs.Situation.{with-held}
 use Rattle.situation.specs.Packed.{unpacked}
-use Rattle.situation.proofs.Settled.{stays}
+use Rattle.rulebook.proofs.Settled.{stays}
 use borrow.Author.Needs.{needs}
 use Rattle.situation.proofs.Situation.bslb_off.Statement.{statement}
 use Rattle.situation.proofs.Situation.bslb_off.Tie as tie

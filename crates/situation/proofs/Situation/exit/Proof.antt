@@ -1,7 +1,7 @@
 use mathlib.Core.Path.{_≡_, sym, ap, ap₂, _∙_}
 use mathlib.Core.Bool.{Bool, not}
 use Rattle.words.specs.Words.{_and_}
-use Rattle.block.specs.Situation.{Station, Situation, out, inward, reoriented, reoriented-where, withOwn, _with-exit_, _is-in, _under-AFBLE}
+use Rattle.rulebook.specs.Situation.{Station, Situation, out, inward, reoriented, reoriented-where, withOwn, _with-exit_, _is-in, _under-AFBLE}
 use Rattle.situation.specs.Packed.{unpacked}
 use borrow.Author.Needs.{needs}
 use Rattle.situation.proofs.Situation.exit.Statement.{statement}

@@ -1,8 +1,8 @@
 use Prim.Native.Nat.{ℕ}
 use mathlib.Core.Path.{refl, ap, _∙_}
-use Rattle.block.specs.Situation.{withTrack, withOccupied}
+use Rattle.rulebook.specs.Situation.{withTrack, withOccupied}
 use Rattle.situation.specs.Packed.{unpacked}
-use Rattle.situation.proofs.Settled.{stays}
+use Rattle.rulebook.proofs.Settled.{stays}
 use borrow.Author.Needs.{needs}
 use Rattle.situation.proofs.Situation.freed.Statement.{statement}
 use Rattle.situation.proofs.Situation.freed.Tie as tie

@@ -1,5 +1,5 @@
 use mathlib.Core.Path.{ap, _∙_}
-use Rattle.block.specs.Situation.{nobody, withPending}
+use Rattle.rulebook.specs.Situation.{nobody, withPending}
 use borrow.Author.Needs.{needs}
 use Rattle.situation.proofs.Situation.link_lost.Statement.{statement}
 use Rattle.situation.proofs.Situation.link_lost.Tie as tie

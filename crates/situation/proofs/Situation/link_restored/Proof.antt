@@ -1,9 +1,9 @@
 use mathlib.Core.Path.{refl, sym, ap, _∙_}
 use mathlib.Core.Bool.{Bool, false, true, not}
-use Rattle.block.specs.Situation.{none, reoriented, reoriented-where, withLink}
-use Rattle.block.specs.Pending.{pending-settled}
+use Rattle.rulebook.specs.Situation.{none, reoriented, reoriented-where, withLink}
+use Rattle.rulebook.specs.Pending.{pending-settled}
 use Rattle.situation.specs.Packed.{unpacked}
-use Rattle.situation.proofs.Settled.{stays}
+use Rattle.rulebook.proofs.Settled.{stays}
 use borrow.Author.Needs.{needs}
 use Rattle.situation.proofs.Situation.link_restored.Statement.{statement}
 use Rattle.situation.proofs.Situation.link_restored.Tie as tie

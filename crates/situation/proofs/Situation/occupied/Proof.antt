@@ -1,9 +1,9 @@
 use mathlib.Core.Path.{sym, ap, ap₂, _∙_}
 use mathlib.Core.Bool.{Bool}
 use Rattle.words.specs.Words.{_and_}
-use Rattle.block.specs.Place.{place}
-use Rattle.block.specs.Situation.{Situation, nobody, out, inward, reoriented, reoriented-where, withPending, line-free, _is-in}
-use Rattle.block.specs.Events.{taken}
+use Rattle.rulebook.specs.Place.{place}
+use Rattle.rulebook.specs.Situation.{Situation, nobody, out, inward, reoriented, reoriented-where, withPending, line-free, _is-in}
+use Rattle.rulebook.specs.Events.{taken}
 use Rattle.situation.specs.Packed.{unpacked}
 use borrow.Author.Needs.{needs}
 use Rattle.situation.proofs.Situation.occupied.Statement.{statement}

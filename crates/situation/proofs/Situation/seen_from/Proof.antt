@@ -1,5 +1,5 @@
 use mathlib.Core.Path.{sym, ap, _∙_}
-use Rattle.block.specs.Situation.{seen-from}
+use Rattle.rulebook.specs.Situation.{seen-from}
 use Rattle.block.specs.declared.line.Name.{Name}
 use Rattle.situation.specs.Packed.{unpacked}
 use borrow.Author.Needs.{needs}

@@ -1,7 +1,7 @@
 use mathlib.Core.Path.{sym, ap, _∙_}
 use mathlib.Core.Bool.{Bool}
 use Rattle.words.specs.Words.{_or_, if_then_else_}
-use Rattle.block.specs.Situation.{nobody, withPending}
+use Rattle.rulebook.specs.Situation.{nobody, withPending}
 use Rattle.situation.specs.Packed.{unpacked}
 use borrow.Author.Needs.{needs}
 use Rattle.situation.proofs.Situation.settled.Statement.{statement}

@@ -1,5 +1,5 @@
 use mathlib.Core.Path.{sym, ap, _∙_}
-use Rattle.block.specs.Situation.{station}
+use Rattle.rulebook.specs.Situation.{station}
 use Rattle.situation.specs.Packed.{unpacked}
 use borrow.Author.Needs.{needs}
 use Rattle.situation.proofs.Situation.station.Statement.{statement}

@@ -2,8 +2,8 @@ use Prim.Native.Nat.{ℕ}
 use mathlib.Core.Path.{sym, ap, ap₂, _∙_}
 use mathlib.Core.Bool.{Bool}
 use Rattle.words.specs.Words.{_and_, _or_}
-use Rattle.block.specs.Place.{place}
-use Rattle.block.specs.Situation.{Situation, no-annulment, withOwn, withTrack, withOccupied, _annulled, _annulled-by_, _under-AFBLE}
+use Rattle.rulebook.specs.Place.{place}
+use Rattle.rulebook.specs.Situation.{Situation, no-annulment, withOwn, withTrack, withOccupied, _annulled, _annulled-by_, _under-AFBLE}
 use Rattle.situation.specs.Packed.{unpacked}
 use Rattle.situation.proofs.Taken.{or-true, not-so, not-annulled, kept, goes}
 use borrow.Author.Needs.{needs}

@@ -1,5 +1,5 @@
 use mathlib.Core.Path.{sym, ap, _∙_}
-use Rattle.block.specs.Situation.{with-held}
+use Rattle.rulebook.specs.Situation.{with-held}
 use Rattle.block.specs.declared.line.Direction.{Direction}
 use Rattle.situation.specs.Packed.{unpacked}
 use borrow.Author.Needs.{needs}

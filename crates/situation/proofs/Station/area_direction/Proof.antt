@@ -1,7 +1,7 @@
 use mathlib.Core.Path.{_≡_, refl}
 use mathlib.Core.Bool.{Bool, true, false, not}
 use Rattle.words.specs.Words.{_and_, _or_, if_then_else_}
-use Rattle.block.specs.Situation.{out, inward, _under-AFBLI, _under-AFBLE}
+use Rattle.rulebook.specs.Situation.{out, inward, _under-AFBLI, _under-AFBLE}
 use Rattle.block.specs.declared.codes.Orientation.{Orientation}
 use Rattle.situation.specs.Packed.{station}
 use borrow.Author.Needs.{needs}

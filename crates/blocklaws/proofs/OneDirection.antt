@@ -1,9 +1,0 @@
--- An area has at most one direction: it is never out and in at once. Assumes nothing.
-use mathlib.Core.Bool.{not}
-use Rattle.words.specs.Words.{_and_}
-use Rattle.block.specs.Situation.{areaDirection}
-use Rattle.blocklaws.proofs.Every.{everyStation-at}
-use Rattle.blocklaws.specs.Laws.{OneDirection}
-
-pub one-direction : OneDirection
-one-direction t = everyStation-at t (λ u. not (areaDirection u .out and areaDirection u .inward)) tt

@@ -1,0 +1,17 @@
+pub mod Judged
+pub mod Settled
+pub mod InTable
+pub mod Every
+pub mod StationsKept
+pub mod Frame
+pub mod Placed
+pub mod SetsKept
+pub mod Accepted
+pub mod SoundnessKept
+pub mod RefusedUnchanged
+pub mod AcceptedSomewhere
+pub mod EventsDo
+pub mod PendingRule
+pub mod FreshSound
+pub mod OneDirection
+pub mod StepsAgree

@@ -1,0 +1,87 @@
+-- "Every accepted event leads from a sound situation to a sound one." Assumes nothing.
+use mathlib.Core.Bool.{not}
+use lib.Dec.{T, eqb}
+use borrow.Author.Tests.{eq-eqb}
+use Rattle.words.proofs.Tests.{and-at, and-of, twice-not, if-case, is-holds}
+use Rattle.block.specs.Line.{isPlan}
+use Rattle.rulebook.specs.Judged.{judged}
+use Rattle.block.proofs.PlanLaws.{plan-short}
+use Rattle.rulebook.specs.Place.{Place, place}
+use Rattle.rulebook.specs.Situation.{Situation, Kept, turnedRound, seen-from}
+use Rattle.rulebook.specs.Sound.{stationsSound, setsSound, sound}
+use Rattle.rulebook.specs.Table.{Kind, kind-of}
+use Rattle.rulebook.specs.Apply.{refuses, refusal-at, led-at, known, argument-right, spot, own-refusal, reached, accepted, refused, acted, stepped, applied, Outcome}
+use Rattle.block.specs.declared.line.Plan.{Plan}
+use Rattle.block.specs.declared.line.Name.{Name}
+use Rattle.block.specs.declared.line.Name.the-variants.{StationA, StationB}
+use Rattle.block.specs.declared.event.Event.{Event}
+use Rattle.block.specs.declared.event.Spot.{Spot}
+use Rattle.rulebook.proofs.InTable.{Known, at-code}
+use Rattle.rulebook.proofs.Frame.{framed, kinds}
+use Rattle.rulebook.proofs.Placed.{placed}
+use Rattle.rulebook.proofs.StationsKept as stations
+use Rattle.rulebook.proofs.StationsKept.{next, turned-sound, stations-kept}
+use Rattle.rulebook.proofs.SetsKept.{sets-kept}
+use Rattle.rulebook.specs.Laws.{SoundnessKept, MethodsSound}
+
+-- the conjuncts of soundness
+pub record Parts (q : Plan) (x : Situation) : Type 0 where
+  pub stations : T (stationsSound x)
+  pub sets : T (setsSound q x)
+
+pub parts : (q : Plan) (x : Situation) → T (sound q x) → Parts q x
+parts q x t = let h = and-at (stationsSound x) (setsSound q x) t in record { stations = h .0; sets = h .1 }
+
+pub whole : (q : Plan) (x : Situation) → Parts q x → T (sound q x)
+whole q x p = and-of (stationsSound x) (setsSound q x) (p .stations) (p .sets)
+
+-- ---- seen from the other station
+turned-round : (q : Plan) (x : Situation) → T (sound q x) → T (sound q (turnedRound x))
+turned-round q x t = let p = parts q x t in whole q (turnedRound x) (record { stations = turned-sound x (p .stations); sets = p .sets })
+
+pub seen-sound : (q : Plan) (s : Name) (x : Kept) → T (sound q x) → T (sound q (seen-from s x))
+seen-sound q StationA x t = t
+seen-sound q StationB x t = turned-round q x t
+
+module _ (q : Plan) (plan : T (isPlan q)) (x : Kept) (e : Event) (t : T (sound q x)) where
+  abbrev at : Spot
+  at = spot q e
+
+  abbrev seen : Situation
+  seen = seen-from (at .own) x
+
+  -- as own sees it
+  led-sound : Known (e .code) → T (argument-right q e) → T (eqb (refuses (kind-of (e .code)) at seen) 0) → T (sound q (next (kind-of (e .code)) (place at seen) seen))
+  led-sound ok right a =
+      let k : Kind = kind-of (e .code) in
+      let here : Place = place at seen in
+      let p = parts q seen (seen-sound q (at .own) x t) in
+      whole q (next k here seen)
+      (record {
+        stations = at-code (λ k. stations.accepted (k .row here seen) → T (stationsSound (next k here seen))) (stations-kept here seen (p .stations)) (e .code) ok a;
+        sets = sets-kept q k here seen (kinds (e .code) ok) (framed (e .code) ok here seen) (placed q (plan-short q plan) (k .argument) (e .argument) right) (p .sets);
+      })
+
+  pub reached-sound : Known (e .code) → T (argument-right q e) → T (eqb (own-refusal q x e) 0) → T (sound q (reached q x e))
+  unfolding refusal-at led-at
+  reached-sound ok right a = seen-sound q (at .own) (next (kind-of (e .code)) (place at seen) seen) (led-sound ok right a)
+
+  pub stepped-sound : T (sound q (stepped q x e .next))
+  unfolding stepped acted
+  stepped-sound =
+      let P : Outcome → Type 0 = λ (o : Outcome). T (sound q (o .next)) in
+      if-case P (not (known e)) (refused 3 x) _ (λ u. t) λ k.
+      if-case P (not (argument-right q e)) (refused 4 x) _ (λ u. t) λ r.
+      if-case P (eqb (own-refusal q x e) 0) (accepted (reached q x e)) (refused (own-refusal q x e) x)
+      (reached-sound (twice-not (known e) k) (twice-not (argument-right q e) r)) (λ u. t)
+
+  applied-sound : T (sound q (applied q x e .next))
+  applied-sound =
+      if-case (λ (o : Outcome). T (sound q (o .next))) (eqb (judged q x) 0) (stepped q x e) (refused (judged q x) x)
+      (λ u. stepped-sound) (λ u. t)
+
+pub soundness-kept : SoundnessKept
+soundness-kept = applied-sound
+
+pub methods-sound : MethodsSound
+methods-sound p plan x e t ok right a = led-sound p plan x e t ok right (is-holds _ (eq-eqb _ 0 a))

@@ -1,0 +1,10 @@
+pub mod Situation
+pub mod Sound
+pub mod Judged
+pub mod Checks
+pub mod Pending
+pub mod Place
+pub mod Events
+pub mod Table
+pub mod Apply
+pub mod Laws
