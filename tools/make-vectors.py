@@ -1,16 +1,18 @@
 #!/usr/bin/env python3
 """make-vectors.py CASES.tsv.. > crates/vectors/stdin: cases, a line each, as the compact records that the program `vectors` reads. Its cases are
-the outside ones, what number-cases.py prints, what question-cases.py prints of the papers marked-run, pending-sobb and link-down, and
-cases/key-program.tsv, in this order.
+the outside ones, what number-cases.py prints, what question-cases.py prints of the papers marked-run, pending-sobb and link-down, what room-cases.py
+prints, and cases/key-program.tsv, in this order.
 
 A record is a head of 21 bytes, the case's three inputs, and what the call is to write into the room. The head has the kind of the case (1 byte), the
 length of the room (4), the number that the call is to answer (8), the lengths of the three inputs (2 each) and of all that follows the head (2).
 Numbers have their low byte first. Each function below takes the words of a case and of its answer, and gives the inputs, the length of the room, the
-number, packed as the call packs it, and the bytes written."""
+number, packed as the call packs it, and the bytes written.
+
+make-vectors.py --wrong CASES.tsv..: the same with another number in each, so that the program must name every case."""
 import sys
 
-# What a writer of lines may want of the room beyond the text that it leaves: ten lines of at most 20 bytes.
-LINES = 200
+# What a piece of the text may want of the room beyond the text that it leaves: the longest room of a piece has 185 bytes (crates/vectors/src/text.rt).
+PIECE = 200
 
 
 def hexed(text):
@@ -65,7 +67,7 @@ def typed(words, answer):
 def keytext(words, answer):
     """The number is the length of the text."""
     text = ' '.join(answer).replace('|', '\n').encode()
-    return [hexed(words[0])], len(text) + LINES, len(text), text
+    return [hexed(words[0])], len(text) + PIECE, len(text), text
 
 
 KINDS = {
@@ -82,7 +84,7 @@ KINDS = {
 }
 
 
-def record(line):
+def record(line, wrong):
     case, answer = line.rstrip('\n').split('\t')
     name, *words = case.split(' ')
     kind, parts = KINDS[name]
@@ -90,13 +92,14 @@ def record(line):
     inputs += [b''] * (3 - len(inputs))
     body = b''.join(inputs) + written
     lengths = b''.join(number(len(part), 2) for part in (*inputs, body))
-    return number(kind, 1) + number(room, 4) + number(told, 8) + lengths + body
+    return number(kind, 1) + number(room, 4) + number(told ^ wrong, 8) + lengths + body
 
 
 def main():
-    for name in sys.argv[1:]:
+    wrong = 1 if sys.argv[1:2] == ['--wrong'] else 0
+    for name in sys.argv[1 + wrong:]:
         for line in open(name, encoding='ascii'):
-            sys.stdout.buffer.write(record(line))
+            sys.stdout.buffer.write(record(line, wrong))
 
 
 main()

@@ -1,5 +1,5 @@
 -- "Plan 4, 2, fresh unless told. To be shown of the rules, as a single table"
-use Prim.Native.Nat.{ℕ, _+_, _*_}
+use Prim.Native.Nat.{ℕ, _+_, _*_, _^_}
 use mathlib.Core.Bool.{Bool, true, false}
 use mathlib.Core.List.{List, [], _∷_}
 use mathlib.Core.Path.{_≡_}
@@ -10,10 +10,11 @@ use Rattle.block.specs.declared.line.Plan.{Plan}
 use Rattle.rulebook.specs.Table.{Sobb, Cobb, Afbli, Afble, Bilc, Bslg, ExitNormal, ExitSpecial, Occupied, LinkLost, LinkRestored}
 use Rattle.rulebook.specs.Apply.{event, applied}
 use Rattle.signals.specs.Readings.{value-read}
-use Rattle.marking.specs.Exact.{exactAnswer}
+use Rattle.numeric.specs.Exact.{exactAnswer, isNumber, exactValue}
 use Rattle.marking.specs.Sheet.{marked}
 use Rattle.marking.specs.declared.Answer.{Answer}
 use Rattle.marking.specs.declared.Answer.the-variants.{Seconds}
+use Rattle.marking.specs.declared.Marked.{Marked}
 use lib.Ieee.{Float, binary32, round}
 use lib.IntN.{pos}
 
@@ -107,16 +108,24 @@ abbrev pub go : Kept → List Tried → List Seen → Bool
 go x [] rs = all-seen x rs
 go x ((code at arg gives refusal) ∷ es) rs = eqb (applied plan x (event code arg) .refusal) refusal and go (applied plan x (event code arg) .next) es rs
 
--- the float that is n / 2 ^ 18
+-- the float that is nearest to n / 2 ^ 18, and whether it is n / 2 ^ 18 exactly
 abbrev pub over-2^18 : ℕ → Float
-over-2^18 n = round binary32 false n 262144
+over-2^18 n = round binary32 false n (2 ^ 18)
+
+abbrev pub Exactly : Float → ℕ → Type 0
+Exactly x n = T (isNumber x) × (exactValue x .minus ≡ false) × (exactValue x .over * 2 ^ 18 ≡ n * exactValue x .under)
+
+-- accepted, with this verdict and this error
+abbrev pub Gets : Marked → ℕ → ℕ → Type 0
+Gets m verdict e = (m .refusal ≡ 0) × (m .line .verdict ≡ verdict) × (m .line .error ≡ pos e)
 
 unfoldable pub Holds : Row → Type 0
 Holds (es then rs) = T (go fresh es rs)
 Holds (d metres-at v exactly t seconds) = exactAnswer 1 d v .top ≡ t * exactAnswer 1 d v .bottom
 Holds (d metres-at v within tolerance typed n /2^18-gets verdict error e) =
-    (marked 1 d v tolerance (Seconds (over-2^18 n)) .line .verdict ≡ verdict) × (marked 1 d v tolerance (Seconds (over-2^18 n)) .line .error ≡ pos e)
-Holds (d metres-at v within-0-no-float-is-right) = (a : Answer) → marked 1 d v 0 a .line .verdict ≡ 1 → ⊥
+    Exactly (over-2^18 n) n × Gets (marked 1 d v tolerance (Seconds (over-2^18 n))) verdict e
+-- every answer is accepted, and none is right
+Holds (d metres-at v within-0-no-float-is-right) = (a : Answer) → (marked 1 d v 0 a .refusal ≡ 0) × (marked 1 d v 0 a .line .verdict ≡ 1 → ⊥)
 
 unfoldable pub All : List Row → Type 0
 All [] = Unit {0}
@@ -142,7 +151,7 @@ table =
     ∷ ((AFBLI at A gives 0 ∷ BSLG at A gives 8 ∷ []) then [])
     -- 7. AFBLE A: normal exit 8, special accepted; with BILC 11.
     ∷ ((AFBLE at A gives 0 ∷ exit-route at A gives 8 ∷ special-exit at A gives 0 ∷ []) then [])
-    ∷ ((AFBLE at A gives 0 ∷ BILC at A gives 0 ∷ special-exit at A gives 11 ∷ []) then [])
+    ∷ ((AFBLE at A gives 0 ∷ BILC at A gives 0 ∷ exit-route at A gives 11 ∷ special-exit at A gives 11 ∷ []) then [])
     -- 8. SOBB A, COBB B, link lost, AFBLE A: B still in; link restored: both none.
     ∷ ((SOBB at A gives 0 ∷ COBB at B gives 0 ∷ link-lost at 0 gives 0 ∷ AFBLE at A gives 0 ∷ []) then (orientation B is 2 ∷ []))
     ∷ ((SOBB at A gives 0 ∷ COBB at B gives 0 ∷ link-lost at 0 gives 0 ∷ AFBLE at A gives 0 ∷ link-restored at 0 gives 0 ∷ [])

@@ -1,4 +1,4 @@
--- The calls on a plan and a situation, each the records "exactly as they stand in a question". Refusals in the document's order: 20 where they are
+-- The calls on a plan and a situation, each the records exactly as they stand in a question. Refusals in the document's order: 20 where they are
 -- not, or event or reading have another length than two bytes; 1, 2; 3, 4; 21; 24; then the event's own.
 use Prim.Native.Nat.{ℕ, zero, suc, _+_, _-_, _*_}
 use mathlib.Core.List.{List, [], _∷_, _++_}
@@ -64,7 +64,7 @@ abbrev pub records-after : Whole Given → List ℕ → List ℕ
 records-after no-form e = []
 records-after (accepted g) e = record-after (g .plan) (g .situation) (event-in e)
 
--- "refusal + 2^8 name + 2^16 length": there is no name yet
+-- `refusal + 2^8 name + 2^16 length`: there is no name yet
 abbrev pub told-with : ℕ → List ℕ → ℕ
 told-with refusal after = refusal + 65536 * (if eqb refusal 0 then length after else 0)
 
@@ -82,7 +82,7 @@ abbrev pub reading-told : Whole Given → List ℕ → Told
 reading-told no-form r = nothing-told 20
 reading-told (accepted g) r = if eqb (length r) 2 then reading (g .plan) (g .situation) (getD r 0 0) (getD r 1 0) else nothing-told 20
 
--- "refusal + 2^8 value"
+-- `refusal + 2^8 value`
 abbrev pub packed : Told → ℕ
 packed t = t .refusal + 256 * t .value
 
@@ -104,7 +104,7 @@ aspects-told no-form room = 20
 aspects-told (accepted g) room =
     judged (g .plan) (g .situation) or-else 24 unless leb (g .plan .sections + g .plan .sections) (length room)
 
--- "writes 2n bytes: aspects of 1..n, then of 129..128+n"
+-- 2n bytes: aspects of 1..n, then of 129..128+n
 abbrev pub aspects-written : Whole Given → List ℕ
 aspects-written no-form = []
 aspects-written (accepted g) = all-aspects g

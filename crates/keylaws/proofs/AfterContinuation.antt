@@ -15,9 +15,9 @@ use Rattle.keylaws.specs.Order.{before}
 use Rattle.keylaws.specs.Slots.{slotOf, wordOf}
 use Rattle.keylaws.specs.Continuation.{fromStart, comesAfter, keep, answersAfter}
 use Rattle.keylaws.proofs.Among.{among-at}
-use Rattle.keylaws.proofs.ExactlyTheAnswers.{sound}
 use Rattle.keylaws.proofs.OrderLaws.{before-irrefl, before-trans, before-asym}
 use Rattle.keylaws.proofs.InOrderOnce.{Rising, rising}
+use Rattle.keylaws.proofs.ExactlyTheAnswers.{sound}
 use Rattle.keylaws.proofs.Keeping.{of-keep, in-keep, keep-all}
 use Rattle.keylaws.proofs.SlotsOfWords.{word-of-slot}
 
@@ -58,7 +58,7 @@ keep-after (w ∷ ws) r (suc j) h =
 module _ (R : Rules) (limit : ℕ) (start : R .Situation) where
   pub exactly-those-after : (x : List ℕ) (w : Word) → (w among answersAfter R limit start x) ↔ ((w among answers R limit start) × (comesAfter x w ≡ true))
   unfolding answersAfter
-  exactly-those-after x w = (of-keep (comesAfter x) w (answers R limit start), λ h. in-keep (comesAfter x) w (answers R limit start) (h .0) (h .1))
+  exactly-those-after x w = (λ m. of-keep _ w (answers R limit start) m, λ h. in-keep _ w (answers R limit start) (h .0) (h .1))
 
   pub an-end-of-the-key : (x : List ℕ) → (i : ℕ) × (answersAfter R limit start x ≡ drop i (answers R limit start))
   unfolding answersAfter

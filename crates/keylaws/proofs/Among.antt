@@ -4,7 +4,7 @@ use mathlib.Core.Path.{_≡_, refl, sym, ap, subst}
 use mathlib.Core.Logic.{⊎-elim}
 use mathlib.Core.Bool.{Bool, true, false, cond}
 use mathlib.Core.List.{List, [], _∷_, _++_, map}
-use mathlib.Core.List.{List·Memᴰ·head as here, List·Memᴰ·tail as later, List·Memᴰ·not-nil as none, List·Memᴰ·cases-cons as split-cons}
+use mathlib.Core.List.{List·Memᴰ, List·Memᴰ·head as here, List·Memᴰ·tail as later, List·Memᴰ·not-nil as none, List·Memᴰ·cases-cons as split-cons}
 use mathlib.Core.List.{List·Memᴰ·append-cases as split-append, Memᴰ·append-left as in-left, Memᴰ·append-right as in-right, List·Memᴰ·eq-of-singleton as only}
 use native.Mathlib.Omega.{arith}
 use native.Mathlib.Decide.{decLe}
@@ -21,11 +21,11 @@ among-at ws j h = subst (λ (l : List Word). getD ws j [] among l) (sym (split-a
 abbrev pub after-place : ℕ → List Word → List Word
 after-place p ws = map (λ (w : Word). p ∷ w) ws
 
-pub in-map : (f : Word → Word) (v : Word) (ws : List Word) → v among ws → f v among map f ws
+pub in-map : {B : Type 0} (f : Word → B) (v : Word) (ws : List Word) → v among ws → List·Memᴰ (f v) (map f ws)
 in-map f v ws (here e) = here (ap f e)
 in-map f v ws (later {xs = xs} m) = later (in-map f v xs m)
 
-pub of-map : (f : Word → Word) (w : Word) (ws : List Word) → w among map f ws → (v : Word) × (w ≡ f v) × (v among ws)
+pub of-map : {B : Type 0} (f : Word → B) (w : B) (ws : List Word) → List·Memᴰ w (map f ws) → (v : Word) × (w ≡ f v) × (v among ws)
 of-map f w [] m = absurd (none m)
 of-map f w (u ∷ ws) m = ⊎-elim (λ e. (u, e, here refl)) (λ n. let r = of-map f w ws n in (r .0, r .1, later (r .2))) (split-cons m)
 

@@ -1,13 +1,13 @@
 -- A word is in the key exactly if it is an answer: no answer is missing from a key, and nothing else is in it. By induction on the length that remains.
 use Prim.Native.Nat.{ℕ, zero, suc, _≤_}
 use mathlib.Core.Path.{_≡_}
-use mathlib.Core.Logic.{_⊎_, inl, inr, _↔_}
+use mathlib.Core.Logic.{⊎-elim, _↔_}
 use mathlib.Core.Bool.{true}
 use mathlib.Core.List.{[], _∷_, List·Memᴰ·append-cases as split-append, Memᴰ·append-left as in-left, Memᴰ·append-right as in-right}
 use native.Mathlib.Omega.{arith}
 use borrow.Author.Tests.{eqb-true, eq-eqb}
 use Rattle.keylaws.specs.Rules.{Rules, Word, accepts}
-use Rattle.keylaws.specs.Key.{emptyIf, through, inTurn, answers, reached, Permitted, Accepted, Answer, _among_}
+use Rattle.keylaws.specs.Key.{emptyIf, through, answers, reached, Permitted, Accepted, Answer, _among_}
 use Rattle.keylaws.proofs.Among.{of-empty, in-empty, of-turns, in-turns, of-through, in-through}
 
 module _ (R : Rules) where
@@ -35,7 +35,7 @@ module _ (R : Rules) where
   -- ---- none missing
   longer-in : (k : ℕ) (s : R .Situation) (p : ℕ) (w : Word) → 1 ≤ p → p ≤ R .events → R .refusal s p ≡ 0 → w among answers R k (R .next s p) → p ∷ w among answers R (suc k) s
   unfolding answers
-  longer-in k s p w h g e m = in-right (emptyIf (R .holds s)) (in-turns (through R (answers R k) s) (p ∷ w) p (R .events) 1 h (omega arith) (in-through R (answers R k) s p w (eq-eqb _ 0 e) m))
+  longer-in k s p w h g e m = in-right (emptyIf (R .holds s)) (in-turns (through R (answers R k) s) (p ∷ w) p _ 1 h (omega arith) (in-through R (answers R k) s p w (eq-eqb _ 0 e) m))
 
   pub complete : (limit : ℕ) (start : R .Situation) (w : Word) → Answer R limit start w → w among answers R limit start
   unfolding answers reached
@@ -50,14 +50,13 @@ module _ (R : Rules) where
   pub sound : (limit : ℕ) (start : R .Situation) (w : Word) → w among answers R limit start → Answer R limit start w
   unfolding answers
   sound zero s w m = answer-empty 0 s w (of-empty (R .holds s) w m)
-  sound (suc k) s w m = go (λ t v n. sound k t v n) (split-append (emptyIf (R .holds s)) m)
-    where
-      go : ((t : R .Situation) (v : Word) → v among answers R k t → Answer R k t v) → (w among emptyIf (R .holds s)) ⊎ (w among inTurn (through R (answers R k) s) 1 (R .events)) → Answer R (suc k) s w
-      go ih (inl n) = answer-empty (suc k) s w (of-empty (R .holds s) w n)
-      go ih (inr n) =
-          let r = of-turns (through R (answers R k) s) w (R .events) 1 n in
-          let z = of-through R (answers R k) s (r .0) w (r .3) in
-          rw (z .1) (answer-longer k s (r .0) (z .0) (r .1) (omega (arith, r .2)) (z .2) (ih (R .next s (r .0)) (z .0) (z .3)))
+  sound (suc k) s w m =
+      ⊎-elim (λ n. answer-empty (suc k) s w (of-empty (R .holds s) w n))
+      (λ n.
+      let r = of-turns (through R (answers R k) s) w _ 1 n in
+      let z = of-through R (answers R k) s (r .0) w (r .3) in
+      rw (z .1) (answer-longer k s (r .0) (z .0) (r .1) (omega (arith, r .2)) (z .2) (sound k (R .next s (r .0)) (z .0) (z .3))))
+      (split-append (emptyIf (R .holds s)) m)
 
   pub exactly-the-answers : (limit : ℕ) (start : R .Situation) (w : Word) → (w among answers R limit start) ↔ Answer R limit start w
   exactly-the-answers limit start w = (sound limit start w, complete limit start w)

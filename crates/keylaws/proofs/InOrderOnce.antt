@@ -64,9 +64,9 @@ module _ (R : Rules) where
   pub rising : (limit : ℕ) (start : R .Situation) → Rising (answers R limit start)
   unfolding answers before
   rising zero s = rising-empty (R .holds s)
-  rising (suc k) s = rising-append (emptyIf (R .holds s)) _ (rising-empty (R .holds s)) (rising-turns (answers R k) (rising k) s (R .events) 1)
+  rising (suc k) s = rising-append (emptyIf (R .holds s)) _ (rising-empty (R .holds s)) (rising-turns (answers R k) (rising k) s _ 1)
       (λ v w i j.
-      let q = of-turns (through R (answers R k) s) w (R .events) 1 j in
+      let q = of-turns (through R (answers R k) s) w _ 1 j in
       let b = of-through R (answers R k) s (q .0) w (q .3) in
       rw (of-empty (R .holds s) v i .0, b .1) refl)
 

@@ -29,6 +29,12 @@ unfolding before
 before-empty [] = refl
 before-empty (p ∷ w) = refl
 
+-- ---- a sequence stands before its extensions
+pub before-extension : (w : Word) (p : ℕ) (v : Word) → before w (w ++ (p ∷ v)) ≡ true
+unfolding before
+before-extension [] p v = refl
+before-extension (q ∷ w) p v = before-eq q w (w ++ (p ∷ v)) ∙ before-extension w p v
+
 before-cases : (p q : ℕ) (v w : Word) → before (p ∷ v) (q ∷ w) ≡ true → (p < q) ⊎ ((p ≡ q) × (before v w ≡ true))
 unfolding before
 before-cases p q v w h = go (ltb p q) (eqb p q) refl refl h
@@ -63,9 +69,3 @@ before-asym v w h = go (before w v) refl
     go : (b : Bool) → before w v ≡ b → before w v ≡ false
     go true e = absurd (never _ (before-trans v w v h e) (before-irrefl v))
     go false e = e
-
--- ---- a sequence stands before its extensions
-pub before-extension : (w : Word) (p : ℕ) (v : Word) → before w (w ++ (p ∷ v)) ≡ true
-unfolding before
-before-extension [] p v = refl
-before-extension (q ∷ w) p v = before-eq q w (w ++ (p ∷ v)) ∙ before-extension w p v

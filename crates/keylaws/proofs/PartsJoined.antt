@@ -21,7 +21,7 @@ use Rattle.keylaws.proofs.AfterContinuation.{short-after, exactly-those
 
 -- ---- one part: the bytes written, and the last slot among them
 module _ (ws : List Word) (room : List ℕ) (short : Short ws) where
-  part-written : written (part ws room) ≡ slots (take (length room / 6) ws)
+  pub part-written : written (part ws room) ≡ slots (take (length room / 6) ws)
   unfolding part
   part-written =
       let e : length (slots (take (length room / 6) ws)) ≡ 6 * min (length room / 6) (length ws)
@@ -36,7 +36,9 @@ module _ (ws : List Word) (room : List ℕ) (short : Short ws) where
       let a : length (slots (take j ws)) ≡ 6 * min (length room / 6) (length ws) - 6 = omega (arith, length-slots (take j ws) (short-take j ws short), length-take-le j ws (omega arith)) in
       let r : slots (take (length room / 6) ws) ++ drop (6 * n) room ≡ slots (take j ws) ++ (slotOf w ++ drop (6 * n) room)
       = rw (e, take-suc ws j [] l, slots-append, slots-one, append-assoc) refl in
-      rw (r, drop-at _ _ _ a, take-at _ _ 6 (length-slot w (short w (among-at ws j l)))) refl
+      let z : take 6 (drop (6 * n - 6) (slots (take (length room / 6) ws) ++ drop (6 * n) room)) ≡ slotOf w
+      = rw (r, drop-at _ _ _ a, take-at _ _ 6 (length-slot w (short w (among-at ws j l)))) refl in
+      z
 
 module _ (R : Rules) (limit : ℕ) (start : R .Situation) (h5 : limit ≤ 5) where
   -- ---- one call

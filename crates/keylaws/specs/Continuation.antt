@@ -20,7 +20,7 @@ isFromStart x = eqb (length x) 6 && (eqb (getD x 0 0) 255 && filled 0 0 (drop 1 
 unfoldable pub isContinuation : ℕ → ℕ → List ℕ → Bool
 isContinuation n limit x = isFromStart x || isSlot n limit x
 
--- "'after' a slot that is no answer is read in this order too": whether w comes after x
+-- ""after" a slot that is no answer is read in this order too": whether w comes after x
 unfoldable pub comesAfter : List ℕ → Word → Bool
 comesAfter x w = cond (eqb (getD x 0 0) 255) true (before (wordOf x) w)
 

@@ -23,6 +23,6 @@ Bounded q = (size (q .events) ≤ 12) × (size (q .readings) ≤ 6) × (q .lengt
 abbrev pub rules : Question → Rules
 rules q = rulesOf (q .plan) (q .events) (q .readings)
 
--- "every sequence of permitted events, up to the question's length, in which each event is accepted in its turn and every reading holds at the end"
+-- every sequence of permitted events, up to the question's length, in which each event is accepted in its turn and every reading holds at the end
 abbrev pub key-of : Question → List Word
 key-of q = answers (rules q) (q .length) (q .situation)

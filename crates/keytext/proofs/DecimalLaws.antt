@@ -1,5 +1,5 @@
 -- A number in decimal: one digit, or that of the tenth part and one more; no longer than the power of ten says. From the definition, whose steps are enough.
-use Prim.Native.Nat.{ℕ, zero, suc, _+_, _/_, _%_, _^_, _≤_, _<_}
+use Prim.Native.Nat.{ℕ, zero, suc, _+_, _-_, _/_, _%_, _^_, _≤_, _<_}
 use mathlib.Core.Path.{_≡_, refl}
 use mathlib.Core.Bool.{Bool, true, false, cond}
 use mathlib.Core.List.{List, [], _∷_, _++_}
@@ -31,8 +31,11 @@ unfolding decimal digits-in
 decimal-more zero h = absurd (omega arith)
 decimal-more (suc m) h = rw (le-ltb (suc m) 10 h, same-digits m (suc m / 10) (suc m / 10) (omega arith) (omega arith))
 
-pub decimal-two : (n : ℕ) → 10 ≤ n → n < 100 → decimal n ≡ digit (n / 10) ∷ digit (n % 10) ∷ []
-decimal-two n h l = rw (decimal-more n h, decimal-one (n / 10) (omega arith))
+pub decimal-two : (n : ℕ) → 10 ≤ n → n < 20 → decimal n ≡ digit 1 ∷ digit (n - 10) ∷ []
+decimal-two n h l =
+    let first : n / 10 ≡ 1 = omega arith in
+    let second : n % 10 ≡ n - 10 = omega arith in
+    rw (decimal-more n h, first, second, decimal-one 1 (omega arith))
 
 pub length-one : (n : ℕ) → n < 10 → length (decimal n) ≡ 1
 length-one n h = rw (decimal-one n h)
@@ -40,7 +43,7 @@ length-one n h = rw (decimal-one n h)
 pub length-more : (n : ℕ) → 10 ≤ n → length (decimal n) ≡ length (decimal (n / 10)) + 1
 length-more n h = rw (decimal-more n h, length-append)
 
-pub length-two : (n : ℕ) → 10 ≤ n → n < 100 → length (decimal n) ≡ 2
+pub length-two : (n : ℕ) → 10 ≤ n → n < 20 → length (decimal n) ≡ 2
 length-two n h l = rw (decimal-two n h l)
 
 one-more : (n k : ℕ) (b : Bool) → ltb n 10 ≡ b → (10 ≤ n → length (decimal (n / 10)) ≤ k) → length (decimal n) ≤ suc k

@@ -3,5 +3,4 @@ pub mod DecimalLaws
 pub mod WordLaws
 pub mod LineLaws
 pub mod LinesOfSlots
-pub mod TextOfKey
 pub mod DecimalReadsBack

@@ -1,12 +1,12 @@
 -- Text over room: written piece by piece it is the text in one. From the laws of lists.
-use Prim.Native.Nat.{ℕ, _+_, _≤_, _<_}
+use Prim.Native.Nat.{ℕ, _+_, _-_, _≤_, _<_}
 use mathlib.Core.Path.{_≡_, refl, sym, ap, _∙_}
-use mathlib.Core.List.{List, [], _∷_, _++_, append-assoc}
+use mathlib.Core.List.{List, [], _∷_, _++_, append-assoc, append-nil}
 use native.Mathlib.Omega.{arith}
 use native.Mathlib.Nat.{add-zero, zero-add}
 use native.Mathlib.Numerals.{add-one}
-use lib.ListN.{length, take, drop, set, length-append, length-take, length-drop, take-append-drop}
-use lib.Seq.{take-length, set-split, take-at, drop-append-add, drop-drop}
+use lib.ListN.{length, take, drop, set, length-append, length-take, length-drop, take-append-drop, drop-of-length-le}
+use lib.Seq.{take-length, set-split, take-at, drop-append-add, drop-drop, take-all}
 use borrow.Author.Tests.{le-leb, lt-leb}
 use Rattle.keytext.specs.Room.{over, written, length-written}
 
@@ -51,7 +51,28 @@ pub copied : (text room : List ℕ) → take (length text) text ++ drop (length 
 unfolding over
 copied text room = rw (take-length text, zero-add)
 
+in-part : (n : ℕ) (b first : List ℕ) → take n first ++ over 0 b (drop n first) ≡ over n b first
+unfolding over
+in-part n b first = rw (zero-add, drop-drop)
+
+-- after a text at the front, another at the front of the part that follows it
+pub then-in-part : (n : ℕ) (a b first part room : List ℕ) → n ≡ length a → first ≡ over 0 a room → length a ≤ length room → part ≡ over 0 b (take (length first - n) (drop n first))
+    → take n first ++ (part ++ drop (length first - n) (drop n first)) ≡ over 0 (a ++ b) room
+then-in-part n a b first part room e f h p =
+    let none : drop (length first - n) (drop n first) ≡ [] = drop-of-length-le (drop n first) {i = length first - n} (omega (arith, length-drop n first)) in
+    let all : take (length first - n) (drop n first) ≡ drop n first = take-all (length first - n) (drop n first) (omega (arith, length-drop n first)) in
+    rw (p, none, all, append-nil) (in-part n b first ∙ then-text 0 n a b first room (omega arith) f (omega arith))
+
+-- where the room keeps its length, the text has no more
+pub within : (text now room : List ℕ) → now ≡ over 0 text room → length now ≡ length room → length text ≤ length now
+unfolding over
+within text now room e h = omega (arith, simp (length-append, length-drop) at (ap length e))
+
 -- ---- what a call leaves and answers
+pub is-written : (needed : ℕ) (text room : List ℕ) → needed ≤ length room → (length-written needed text room ≡ length text) × (written needed text room ≡ over 0 text room)
+unfolding written length-written
+is-written needed text room h = rw (le-leb needed (length room) h) (refl, refl)
+
 pub too-short : (needed : ℕ) (text room : List ℕ) → length room < needed → (0 ≡ length-written needed text room) × ((room ≡ written needed text room) × (0 ≤ length room))
 unfolding written length-written
 too-short needed text room h = rw (lt-leb needed (length room) h) (refl, (refl, omega arith))

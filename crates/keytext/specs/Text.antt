@@ -4,7 +4,6 @@ use mathlib.Core.List.{List, [], _∷_, _++_, map, flatten}
 use lib.ListN.{length, take, drop}
 use Rattle.keylaws.specs.Rules.{Word}
 use Rattle.keylaws.specs.Slots.{wordOf}
-use Rattle.keylaws.specs.Parts.{Part, written}
 use Rattle.keytext.specs.Decimal.{decimal}
 
 abbrev pub newline : ℕ
@@ -38,11 +37,6 @@ words-in (suc k) x = wordOf (take 6 x) ∷ words-in k (drop 6 x)
 -- the words of slots, one after the other; fewer than six bytes at the end are no slot
 unfoldable pub words : List ℕ → List Word
 words x = words-in (length x / 6) x
-
--- the lines of the parts of a key, one part after the other
-unfoldable pub texts : List Part → List ℕ
-texts [] = []
-texts (p ∷ ps) = lines (words (written p)) ++ texts ps
 
 -- a label, one space, a number and the end of the line
 unfoldable pub labelled : List ℕ → ℕ → List ℕ

@@ -27,7 +27,7 @@ pub(crate) fn put_number(n: u64, at: usize, room: &mut [u8]) -> usize
     last + 1
 }
 
-// A place in decimal from `at` on; returns where it ends. Most places have one digit or two.
+// A place in decimal from `at` on; returns where it ends. A question has at most 12 events, so that the places of a key are below 20.
 pub(crate) fn put_place(place: u8, at: usize, room: &mut [u8]) -> usize
     requires { ⌜ at + length (decimal place) ≤ length (now room) ⌝ }
     ensures end { λ r. ⌜ r ≡ at + length (decimal place) ⌝ }
@@ -38,9 +38,9 @@ pub(crate) fn put_place(place: u8, at: usize, room: &mut [u8]) -> usize
         room[at] = digit(n);
         return at + 1;
     }
-    if n < 100 {
-        room[at] = digit(n / 10);
-        room[at + 1] = digit(n % 10);
+    if n < 20 {
+        room[at] = digit(1);
+        room[at + 1] = digit(n - 10);
         return at + 2;
     }
     put_number(n, at, room)

@@ -1,5 +1,5 @@
--- The refusal of a question's lists. "Order: .. 3, 4, 21": "3 unknown code; 4 argument; 21 LN above 5, an event listed twice, a reading out of
--- range". 0 is accepted.
+-- The refusal of a question's lists. "Order: .. 3, 4, 21": "3 unknown code; 4 argument; .. 21 LN above 5, an event listed twice, a reading out
+-- of range". 0 is accepted.
 use Prim.Native.Nat.{ℕ}
 use mathlib.Core.Bool.{Bool, true, false, not}
 use mathlib.Core.List.{List, [], _∷_}

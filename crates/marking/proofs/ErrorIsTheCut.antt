@@ -9,12 +9,12 @@ use lib.IntN.{ℤ, pos, natAbs}
 use lib.Ieee.{Float, nan, inf, fin}
 use lib.Ieee.Fits.{down-pos}
 use Rattle.words.specs.Words.{if_then_else_}
-use Rattle.marking.specs.Exact.{Value, inRange, exactAnswer, exactValue, distance, below, signed, signedError}
+use Rattle.numeric.specs.Exact.{Value, inRange, exactAnswer, exactValue, distance, below, signed, signedError}
 use Rattle.marking.specs.Sheet.{givenOf, marked}
 use Rattle.marking.specs.declared.Answer.{Answer}
 use Rattle.marking.specs.declared.Marked.{Marked}
-use Rattle.marking.specs.declared.exact.Fraction.{Fraction}
-use Rattle.marking.proofs.Ranges.{low}
+use Rattle.numeric.specs.declared.exact.Fraction.{Fraction}
+use Rattle.numeric.proofs.Ranges.{low}
 use Rattle.marking.proofs.Lines.{marked-line}
 
 -- the error e of a value v, whose distance in thousandths is 1000 * distance / (bottom * under)

@@ -1,10 +1,10 @@
 -- Marked example 9: "1,500 m, 100 km/h: 54. Tolerance 50: 14168883/2^18 right, error 49; 14168884/2^18 wrong, error 50." Assumes nothing.
 use mathlib.Core.Path.{_≡_, refl}
-use Prim.Native.Nat.{ℕ, _*_}
+use Prim.Native.Nat.{ℕ, _*_, _^_}
 use mathlib.Core.Bool.{false}
 use lib.IntN.{ℤ, pos, negsuc}
 use lib.Ieee.{Float, fin, binary32, round, ofBits}
-use Rattle.marking.specs.Exact.{exactAnswer}
+use Rattle.numeric.specs.Exact.{exactAnswer, exactValue}
 use Rattle.marking.specs.Sheet.{marked}
 use Rattle.marking.specs.declared.Answer.the-variants.{Seconds}
 use Rattle.marking.specs.declared.Marked.{Marked}
@@ -19,6 +19,10 @@ just-inside = fin false 14168883 (negsuc 17)
 -- 14168884 / 2 ^ 18, written with an odd number: 3542221 / 2 ^ 16
 abbrev pub just-outside : Float
 just-outside = fin false 3542221 (negsuc 15)
+
+-- their exact values, n / 2 ^ 18 of no minus
+pub nine-exactly : (exactValue just-inside .over * 2 ^ 18 ≡ 14168883 * exactValue just-inside .under) × (exactValue just-outside .over * 2 ^ 18 ≡ 14168884 * exactValue just-outside .under)
+nine-exactly = (refl, refl)
 
 -- their patterns, as they are typed
 pub nine-typed : (ofBits binary32 1113076531 ≡ just-inside) × (ofBits binary32 1113076532 ≡ just-outside)

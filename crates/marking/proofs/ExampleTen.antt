@@ -9,12 +9,13 @@ use lib.IntN.{ℤ, pos, negsuc}
 use lib.Ieee.{Float, nan, inf, fin, up, down}
 use lib.Ieee.Fits.{down-pos}
 use Rattle.words.specs.Words.{if_then_else_}
-use Rattle.marking.specs.Exact.{Value, _÷_, apart, distance, right, exactValue}
-use Rattle.marking.specs.Sheet.{numberVerdict, verdictOf, marked}
+use Rattle.numeric.specs.Exact.{Value, _÷_, apart, distance, right, exactValue}
+use Rattle.numeric.specs.Number.{numberVerdict}
+use Rattle.marking.specs.Sheet.{verdictOf, marked}
 use Rattle.marking.specs.declared.Answer.{Answer}
 use Rattle.marking.specs.declared.Answer.the-variants.{Blank, Seconds, Metres}
 use Rattle.marking.specs.declared.Marked.{Marked}
-use Rattle.marking.specs.declared.exact.Fraction.{Fraction}
+use Rattle.numeric.specs.declared.exact.Fraction.{Fraction}
 use Rattle.marking.proofs.Lines.{marked-line}
 use Rattle.marking.proofs.Units.{by-unit, asked-verdict}
 
@@ -73,5 +74,8 @@ never-marked-right (Metres x) h = three (verdictOf 1 ten 0 (Metres x)) (by-unit 
     three : (v : ℕ) → 3 ≡ v → v ≡ 1 → ⊥
     three v e h = omega arith
 
-pub no-float-is-right : (a : Answer) → marked 1 1000 70 0 a .line .verdict ≡ 1 → ⊥
-no-float-is-right a h = never-marked-right a (sym (ap (λ (m : Marked). m .line .verdict) (marked-line 1 1000 70 0 a tt)) ∙ h)
+-- every answer is accepted, and none is right
+pub no-float-is-right : (a : Answer) → (marked 1 1000 70 0 a .refusal ≡ 0) × (marked 1 1000 70 0 a .line .verdict ≡ 1 → ⊥)
+no-float-is-right a =
+    let m = marked-line 1 1000 70 0 a tt in
+    (ap (λ (m : Marked). m .refusal) m, λ h. never-marked-right a (sym (ap (λ (m : Marked). m .line .verdict) m) ∙ h))

@@ -1,25 +1,27 @@
--- A sheet line read back from its bytes gives the verdict and the error that were written, and the pattern that was typed. Assumes nothing.
+-- A sheet line read back from its bytes gives the verdict and the error that were written, the pattern that was typed, and the model value's pattern. Assumes nothing.
 use mathlib.Core.Path.{_≡_, refl, sym, ap, _∙_, subst}
 use mathlib.Core.List.{List, _++_}
 use Prim.Native.Nat.{ℕ, suc, _+_, _-_, _*_, _/_, _%_, _^_, _≤_, _<_, min}
 use native.Mathlib.Nat.{le-trans, le-of-eq, div-div-eq-div-mul}
 use native.Mathlib.Omega.{arith}
 use mathlib.Core.Bool.{Bool, true, false}
-use lib.Dec.{leb, eqb}
+use lib.Dec.{T, leb, eqb}
 use lib.ListN.{drop}
 use lib.IntN.{ℤ, pos, negsuc, natAbs}
-use lib.Ieee.{binary32, ofBits}
+use lib.Ieee.{binary32, ofBits, toBits, fits}
+use lib.Ieee.Bits.{toBits-lt}
 use borrow.Author.Tests.{lt-ltb, le-ltb}
 use Rattle.words.specs.Words.{if_then_else_}
-use Rattle.marking.specs.Exact.{Value, inRange, exactAnswer, exactValue, distance, below, signedError}
+use Rattle.numeric.specs.Exact.{Value, inRange, exactAnswer, exactValue, distance, below, signedError}
 use Rattle.marking.specs.Sheet.{givenOf, verdictOf, sheetLine, refused, marked}
-use Rattle.marking.specs.Typed.{answerOf, patternOf, word, twos, lineBytes, typedRefusal, typedLine, roomAfter, wordAt, signedWord, verdictRead, errorRead}
+use Rattle.marking.specs.Typed.{answerOf, patternOf, word, twos, lineBytes, typedRefusal, typedLine, roomAfter, wordAt, signedWord, modelRead, verdictRead, errorRead}
 use Rattle.marking.specs.declared.Answer.{Answer}
-use Rattle.marking.specs.declared.Line.{Line}
+use Rattle.numeric.specs.declared.Line.{Line}
 use Rattle.marking.specs.declared.Marked.{Marked}
-use Rattle.marking.specs.declared.exact.Fraction.{Fraction}
+use Rattle.numeric.specs.declared.exact.Fraction.{Fraction}
 use Rattle.marking.proofs.Lines.{with-line, marked-by}
 use Rattle.marking.proofs.ErrorIsTheCut.{size-is}
+use Rattle.marking.proofs.TypedCall.{room-by}
 
 -- four bytes hold a number below 2 ^ 32
 pub word-back : (w : ℕ) → w < 2 ^ 32 → wordAt (word w) 0 ≡ w
@@ -84,7 +86,7 @@ module _ (kind amount speed tolerance unit pattern : ℕ) (room : List ℕ) (acc
   line = typedLine kind amount speed tolerance unit pattern
 
   written : after ≡ lineBytes (patternOf unit pattern) line ++ drop 13 room
-  written = ap (λ (n : ℕ). if eqb n 0 then lineBytes (patternOf unit pattern) line ++ drop 13 room else room) accepted
+  written = room-by kind amount speed tolerance unit room pattern true (ap (λ (n : ℕ). eqb n 0) accepted)
 
   pub room-reads-back : (verdictRead after ≡ line .verdict) × (errorRead after ≡ line .error)
   room-reads-back =
@@ -93,3 +95,6 @@ module _ (kind amount speed tolerance unit pattern : ℕ) (room : List ℕ) (acc
 
   pub pattern-reads-back : patternOf unit pattern < 2 ^ 32 → wordAt after 0 ≡ patternOf unit pattern
   pattern-reads-back h = ap (λ (l : List ℕ). wordAt l 0) written ∙ word-back (patternOf unit pattern) h
+
+  pub model-reads-back : T (fits binary32 (line .model)) → modelRead after ≡ toBits binary32 (line .model)
+  model-reads-back f = ap modelRead written ∙ word-back (toBits binary32 (line .model)) (toBits-lt binary32 (line .model) f)

@@ -4,10 +4,10 @@ use Prim.Native.Nat.{ℕ}
 use mathlib.Core.Bool.{Bool, true, false}
 use lib.Dec.{T}
 use Rattle.words.specs.Words.{if_then_else_}
-use Rattle.marking.specs.Exact.{inRange, exactAnswer}
+use Rattle.numeric.specs.Exact.{inRange, exactAnswer}
 use Rattle.marking.specs.Sheet.{sheetLine, refused, marked}
 use Rattle.marking.specs.declared.Answer.{Answer}
-use Rattle.marking.specs.declared.Line.{Line}
+use Rattle.numeric.specs.declared.Line.{Line}
 use Rattle.marking.specs.declared.Marked.{Marked}
 
 -- an answer of marking: the refusal, and the line beside it

@@ -9,14 +9,14 @@ use lib.IntN.{ℤ, pos}
 use lib.Ieee.{Float, fin, binary32, ofBits}
 use borrow.Author.Tests.{lt-ltb}
 use Rattle.words.specs.Words.{if_then_else_}
-use Rattle.marking.specs.Exact.{inRange, exactAnswer, exactValue, distance, below, right, signed, signedError}
+use Rattle.numeric.specs.Exact.{inRange, exactAnswer, exactValue, distance, below, right, signed, signedError}
 use Rattle.marking.specs.Sheet.{unitAsked, sheetLine, marked}
 use Rattle.marking.specs.Typed.{answerOf, typedLine}
 use Rattle.marking.specs.declared.Answer.the-variants.{Blank, Seconds, Metres}
-use Rattle.marking.specs.declared.exact.Fraction.{Fraction}
-use Rattle.marking.specs.declared.Line.{Line}
+use Rattle.numeric.specs.declared.exact.Fraction.{Fraction}
+use Rattle.numeric.specs.declared.Line.{Line}
 use Rattle.marking.specs.declared.Marked.{Marked}
-use Rattle.marking.proofs.Ranges.{low}
+use Rattle.numeric.proofs.Ranges.{low}
 use Rattle.marking.proofs.Lines.{with-line, marked-line}
 
 -- minus zero where s is true

@@ -10,16 +10,17 @@ use lib.Ieee.{Float, binary32}
 use lib.Ieee.Scale.{grid}
 use borrow.Author.Tests.{le-leb}
 use Rattle.words.specs.Words.{if_then_else_}
-use Rattle.marking.specs.Exact.{apart, inRange, exactAnswer, exactValue, right}
-use Rattle.marking.specs.Nearest.{modelValue}
-use Rattle.marking.specs.Sheet.{unitOf, givenOf, unitAsked, numberVerdict, marked}
+use Rattle.numeric.specs.Exact.{apart, inRange, exactAnswer, exactValue, right}
+use Rattle.numeric.specs.Nearest.{modelValue}
+use Rattle.numeric.specs.Number.{numberVerdict}
+use Rattle.marking.specs.Sheet.{unitOf, givenOf, unitAsked, marked}
 use Rattle.marking.specs.declared.Answer.{Answer}
 use Rattle.marking.specs.declared.Marked.{Marked}
-use Rattle.marking.specs.declared.exact.Fraction.{Fraction}
-use Rattle.marking.proofs.Ranges.{Low, low, under-24}
+use Rattle.numeric.specs.declared.exact.Fraction.{Fraction}
+use Rattle.numeric.proofs.Ranges.{Low, low, under-24}
 use Rattle.marking.proofs.Lines.{marked-line}
-use Rattle.marking.proofs.Rounding.{error-32, value}
-use Rattle.marking.proofs.SameValue.{right-of, number-of}
+use Rattle.numeric.proofs.Rounding.{error-32, value}
+use Rattle.numeric.proofs.SameValue.{right-of, number-of}
 use Rattle.marking.proofs.Units.{asked-verdict}
 
 -- 1000 / 32 is below 32: a distance of at most 1 / 32 is at most 32 thousandths

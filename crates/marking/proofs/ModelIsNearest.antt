@@ -4,14 +4,14 @@ use Prim.Native.Nat.{ℕ}
 use native.Mathlib.Nat.{le-trans}
 use native.Mathlib.Omega.{arith}
 use lib.Dec.{T}
-use Rattle.marking.specs.Exact.{inRange, exactAnswer}
-use Rattle.marking.specs.Nearest.{Nearest}
+use Rattle.numeric.specs.Exact.{inRange, exactAnswer}
+use Rattle.numeric.specs.Nearest.{Nearest}
 use Rattle.marking.specs.Sheet.{marked}
 use Rattle.marking.specs.declared.Answer.{Answer}
 use Rattle.marking.specs.declared.Marked.{Marked}
-use Rattle.marking.proofs.Ranges.{low, under-24}
+use Rattle.numeric.proofs.Ranges.{low, under-24}
 use Rattle.marking.proofs.Lines.{marked-line}
-use Rattle.marking.proofs.Rounding.{is-nearest}
+use Rattle.numeric.proofs.Rounding.{is-nearest}
 
 pub model-is-nearest : (kind amount speed tolerance : ℕ) (a : Answer) → T (inRange kind amount speed tolerance) → Nearest (exactAnswer kind amount speed) (marked kind amount speed tolerance a .line .model)
 model-is-nearest kind amount speed tolerance a r =

@@ -1,14 +1,15 @@
 -- What the definitions say of the byte-level call, by the tests that it makes. Assumes nothing.
-use mathlib.Core.Path.{_≡_, refl, sym, ap, _∙_, subst}
-use Prim.Native.Nat.{ℕ, zero, suc, _+_, _*_, _^_}
+use mathlib.Core.Path.{_≡_, sym, ap, _∙_, subst}
+use Prim.Native.Nat.{ℕ, zero, suc, _+_, _*_, _^_, _≤_, _<_}
+use native.Mathlib.Omega.{arith}
 use mathlib.Core.Bool.{Bool, true, false, not, _&&_, cond}
 use mathlib.Core.List.{List, _++_}
-use lib.Dec.{T, leb, ltb, eqb}
+use lib.Dec.{T, leb, ltb, eqb, nltb→le}
 use lib.ListN.{length, drop}
 use lib.Ieee.{Float, inf, Format, prec, emax, low, odd, units, round, isNan}
 use lib.Ieee.Fits.{round-is}
 use Rattle.words.specs.Words.{if_then_else_}
-use Rattle.marking.specs.Exact.{inRange}
+use Rattle.numeric.specs.Exact.{inRange}
 use Rattle.marking.specs.Typed.{patternOf, lineBytes, typedRefusal, typedLine, roomAfter}
 
 -- ---- a rounded fraction is no NaN
@@ -29,29 +30,31 @@ pub round-no-nan : (f : Format) (s : Bool) (num den : ℕ) → T (not (isNan (ro
 round-no-nan f s num den = subst (λ (z : Float). T (not (isNan z))) (sym (round-is f s num den)) (units-no-nan f s _ _)
 
 -- ---- the refusal and the room
-module _ (kind amount speed tolerance unit pattern : ℕ) (room : List ℕ) where
+module _ (kind amount speed tolerance unit : ℕ) (room : List ℕ) where
   abbrev outside : Bool
   outside = not (inRange kind amount speed tolerance && leb unit 2)
 
   abbrev short : Bool
   short = ltb (length room) 13
 
-  abbrev written : List ℕ
-  written = lineBytes (patternOf unit pattern) (typedLine kind amount speed tolerance unit pattern) ++ drop 13 room
+  pub refusal-by : (b s : Bool) → outside ≡ b → short ≡ s → (if b then 23 else if s then 24 else 0) ≡ typedRefusal kind amount speed tolerance unit room
+  refusal-by b s e f = sym (ap (λ (x : Bool). if x then 23 else if short then 24 else 0) e ∙ ap (λ (x : Bool). if b then 23 else if x then 24 else 0) f)
 
-  by-tests : (b s : Bool) → outside ≡ b → short ≡ s
-      → ((if b then 23 else if s then 24 else 0) ≡ typedRefusal kind amount speed tolerance unit room)
-      × ((if eqb (if b then 23 else if s then 24 else 0) 0 then written else room) ≡ roomAfter kind amount speed tolerance unit pattern room)
-  by-tests b s e f =
-      let r : (if b then 23 else if s then 24 else 0) ≡ typedRefusal kind amount speed tolerance unit room =
-      sym (ap (λ (x : Bool). if x then 23 else if short then 24 else 0) e ∙ ap (λ (x : Bool). if b then 23 else if x then 24 else 0) f) in
-      (r, ap (λ (n : ℕ). if eqb n 0 then written else room) r)
+  -- an answer that is not refused is in range, and its line has room
+  pub accepted-is : typedRefusal kind amount speed tolerance unit room ≡ 0 → T (inRange kind amount speed tolerance) × (13 ≤ length room)
+  accepted-is h =
+      let p = go (inRange kind amount speed tolerance) (leb unit 2) short h in
+      (p .0, nltb→le (length room) 13 (p .1))
+    where
+      never : (n : ℕ) → n ≡ 0 → 0 < n → ⊥
+      never n e h = omega arith
 
-  pub out-of-range : outside ≡ true → (23 ≡ typedRefusal kind amount speed tolerance unit room) × (room ≡ roomAfter kind amount speed tolerance unit pattern room)
-  out-of-range e = by-tests true short e refl
+      go : (b u s : Bool) → _≡_ {A = ℕ} (if not (b && u) then 23 else if s then 24 else 0) 0 → T b × T (not s)
+      go true true false h = (tt, tt)
+      go true true true h = absurd (never 24 h (omega arith))
+      go true false s h = absurd (never 23 h (omega arith))
+      go false u s h = absurd (never 23 h (omega arith))
 
-  pub too-short : outside ≡ false → short ≡ true → (24 ≡ typedRefusal kind amount speed tolerance unit room) × (room ≡ roomAfter kind amount speed tolerance unit pattern room)
-  too-short e f = by-tests false true e f
-
-  pub written-out : outside ≡ false → short ≡ false → (0 ≡ typedRefusal kind amount speed tolerance unit room) × (written ≡ roomAfter kind amount speed tolerance unit pattern room)
-  written-out e f = by-tests false false e f
+  pub room-by : (pattern : ℕ) (b : Bool) → eqb (typedRefusal kind amount speed tolerance unit room) 0 ≡ b
+      → roomAfter kind amount speed tolerance unit pattern room ≡ (if b then lineBytes (patternOf unit pattern) (typedLine kind amount speed tolerance unit pattern) ++ drop 13 room else room)
+  room-by pattern b e = ap (λ (x : Bool). if x then lineBytes (patternOf unit pattern) (typedLine kind amount speed tolerance unit pattern) ++ drop 13 room else room) e

@@ -5,20 +5,21 @@ use mathlib.Core.List.{[], _∷_}
 use Prim.Native.Nat.{ℕ}
 use mathlib.Core.Bool.{Bool, true, false, not}
 use lib.Dec.{leb, eqb}
-use lib.IntN.{ℤ, pos}
+use lib.IntN.{pos}
 use lib.Ieee.{Float}
 use borrow.Author.Tests.{eq-eqb, ne-eqb}
 use types.Run.{OneOf}
 use denote.Enum.Declared.{tagOf}
 use Rattle.marking.proofs.Answer.{the-type}
 use Rattle.words.specs.Words.{if_then_else_}
-use Rattle.marking.specs.Exact.{isNumber, exactValue, right, signedError}
-use Rattle.marking.specs.Nearest.{modelValue}
-use Rattle.marking.specs.Sheet.{unitOf, givenOf, unitAsked, numberVerdict, verdictOf, errorAt, lineAt, sheetLine}
+use Rattle.numeric.specs.Exact.{exactValue, signedError}
+use Rattle.numeric.specs.Nearest.{modelValue}
+use Rattle.numeric.specs.Number.{numberVerdict, errorAt, lineAt}
+use Rattle.marking.specs.Sheet.{unitOf, givenOf, unitAsked, verdictOf, sheetLine}
 use Rattle.marking.specs.declared.Answer.{Answer}
 use Rattle.marking.specs.declared.Answer.the-variants.{Blank, Seconds, Metres}
-use Rattle.marking.specs.declared.Line.{Line}
-use Rattle.marking.specs.declared.exact.Fraction.{Fraction}
+use Rattle.numeric.specs.declared.Line.{Line}
+use Rattle.numeric.specs.declared.exact.Fraction.{Fraction}
 
 tag-is-unit : (a : Answer) → tagOf the-type a ≡ unitOf a
 tag-is-unit Blank = refl
@@ -51,26 +52,6 @@ module _ (t : Fraction) (tolerance : ℕ) where
 
     pub asked-unit : eqb (unitOf a) n ≡ true → lineAt (numberVerdict t tolerance (givenOf a)) t (givenOf a) ≡ sheetLine kind t tolerance a
     asked-unit u = ap (λ (v : ℕ). lineAt v t (givenOf a)) (by-unit true u)
-
-  -- verdict 4
-  pub no-number : (x model : Float) → model ≡ modelValue t → isNumber x ≡ false
-      → _≡_ {A = Line} (record { given = x; model = model; verdict = 4; error = pos 0 }) (lineAt (numberVerdict t tolerance x) t x)
-  no-number x model m n =
-      let v : 4 ≡ numberVerdict t tolerance x = sym (ap (λ (b : Bool). if not b then 4 else if right t tolerance (exactValue x) then 1 else 0) n) in
-      let e : pos 0 ≡ errorAt (numberVerdict t tolerance x) t x = ap (λ (k : ℕ). errorAt k t x) v in
-      λ i. record { given = x; model = m i; verdict = v i; error = e i }
-
-  -- verdicts 0 and 1
-  pub number : (x model : Float) (v : ℕ) (e : ℤ) → model ≡ modelValue t → isNumber x ≡ true → v ≡ (if right t tolerance (exactValue x) then 1 else 0) → e ≡ signedError t (exactValue x)
-      → _≡_ {A = Line} (record { given = x; model = model; verdict = v; error = e }) (lineAt (numberVerdict t tolerance x) t x)
-  number x model v e m n h k =
-      let v' : v ≡ numberVerdict t tolerance x = h ∙ sym (ap (λ (b : Bool). if not b then 4 else if right t tolerance (exactValue x) then 1 else 0) n) in
-      let e' : e ≡ errorAt (numberVerdict t tolerance x) t x = k ∙ judged (right t tolerance (exactValue x)) ∙ ap (λ (k : ℕ). errorAt k t x) (sym h ∙ v') in
-      λ i. record { given = x; model = m i; verdict = v' i; error = e' i }
-    where
-      judged : (b : Bool) → signedError t (exactValue x) ≡ errorAt (if b then 1 else 0) t x
-      judged true = refl
-      judged false = refl
 
 -- the verdict of an answer in the unit asked is that of its number
 pub asked-verdict : (t : Fraction) (tolerance kind : ℕ) (a : Answer) → unitOf a ≡ unitAsked kind → verdictOf kind t tolerance a ≡ numberVerdict t tolerance (givenOf a)

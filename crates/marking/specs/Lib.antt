@@ -1,6 +1,3 @@
--- What the contracts of `marking` cite. A reader believes Words, Exact, Nearest, Sheet and Typed, in this order; Inner is for the proofs alone.
-pub mod Exact
-pub mod Nearest
+-- What the contracts of `marking` cite. A reader believes Sheet and Typed, in this order, after those of `numeric`.
 pub mod Sheet
 pub mod Typed
-pub mod Inner

@@ -1,17 +1,17 @@
 -- Answers, verdicts and the sheet line. Definitions only.
 use Prim.Native.Nat.{ℕ}
 use mathlib.Core.Bool.{false, not}
-use lib.Dec.{leb, eqb}
-use lib.IntN.{ℤ, pos}
+use lib.Dec.{eqb}
+use lib.IntN.{pos}
 use lib.Ieee.{Float, fin}
 use Rattle.words.specs.Words.{if_then_else_}
-use Rattle.marking.specs.Exact.{inRange, exactAnswer, isNumber, exactValue, right, signedError}
-use Rattle.marking.specs.Nearest.{modelValue}
+use Rattle.numeric.specs.Exact.{inRange, exactAnswer}
+use Rattle.numeric.specs.Number.{numberVerdict, lineAt}
 use Rattle.marking.specs.declared.Answer.{Answer}
 use Rattle.marking.specs.declared.Answer.the-variants.{Blank, Seconds, Metres}
-use Rattle.marking.specs.declared.Line.{Line}
+use Rattle.numeric.specs.declared.Line.{Line}
 use Rattle.marking.specs.declared.Marked.{Marked}
-use Rattle.marking.specs.declared.exact.Fraction.{Fraction}
+use Rattle.numeric.specs.declared.exact.Fraction.{Fraction}
 
 -- "An answer is blank, seconds with a float, or metres with a float (unit byte 0, 1, 2)."
 abbrev pub unitOf : Answer → ℕ
@@ -32,27 +32,12 @@ givenOf (Metres x) = x
 abbrev pub unitAsked : ℕ → ℕ
 unitAsked kind = if eqb kind 1 then 1 else 2
 
--- "Verdicts: 0 wrong, 1 right, .. 4 no number (NaN, infinite)": of a number typed in the unit asked
-abbrev pub numberVerdict : Fraction → ℕ → Float → ℕ
-numberVerdict t tolerance x =
-    if not (isNumber x) then 4
-    else if right t tolerance (exactValue x) then 1
-    else 0
-
 -- "2 blank, 3 other unit, ..; unit is judged before 4"
 abbrev pub verdictOf : ℕ → Fraction → ℕ → Answer → ℕ
 verdictOf kind t tolerance a =
     if eqb (unitOf a) 0 then 2
     else if not (eqb (unitOf a) (unitAsked kind)) then 3
     else numberVerdict t tolerance (givenOf a)
-
--- "zero for verdicts 2 to 4"
-abbrev pub errorAt : ℕ → Fraction → Float → ℤ
-errorAt verdict t x = if leb verdict 1 then signedError t (exactValue x) else pos 0
-
--- "A sheet line holds the number as given, the model value as a float, the verdict, and the signed error"
-abbrev pub lineAt : ℕ → Fraction → Float → Line
-lineAt verdict t x = record { given = x; model = modelValue t; verdict = verdict; error = errorAt verdict t x }
 
 abbrev pub sheetLine : ℕ → Fraction → ℕ → Answer → Line
 sheetLine kind t tolerance a = lineAt (verdictOf kind t tolerance a) t (givenOf a)

@@ -7,11 +7,11 @@ use lib.IntN.{ℤ, pos, negsuc}
 use lib.ListN.{length, drop, getD}
 use lib.Ieee.{Float, binary32, ofBits, toBits}
 use Rattle.words.specs.Words.{if_then_else_}
-use Rattle.marking.specs.Exact.{inRange}
+use Rattle.numeric.specs.Exact.{inRange}
 use Rattle.marking.specs.Sheet.{marked}
 use Rattle.marking.specs.declared.Answer.{Answer}
 use Rattle.marking.specs.declared.Answer.the-variants.{Blank, Seconds, Metres}
-use Rattle.marking.specs.declared.Line.{Line}
+use Rattle.numeric.specs.declared.Line.{Line}
 
 -- "blank, seconds with a float, or metres with a float (unit byte 0, 1, 2)"
 abbrev pub answerOf : ℕ → Float → Answer
@@ -58,6 +58,9 @@ wordAt bytes k = getD bytes k 0 + 256 * getD bytes (k + 1) 0 + 65536 * getD byte
 
 abbrev pub signedWord : ℕ → ℤ
 signedWord w = if ltb w (2 ^ 31) then pos w else negsuc (2 ^ 32 - suc w)
+
+abbrev pub modelRead : List ℕ → ℕ
+modelRead bytes = wordAt bytes 4
 
 abbrev pub verdictRead : List ℕ → ℕ
 verdictRead bytes = getD bytes 8 0

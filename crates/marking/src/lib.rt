@@ -1,42 +1,25 @@
 // Numbers typed by candidates, marked exactly.
 mod codes;
-pub mod exact;
-mod judged;
-mod nearest;
-mod scaled;
 mod sheet;
 mod typed;
 
 ghost use mathlib.Core.Path.{_≡_};
 ghost use Rattle.marking.specs.Sheet.{marked};
 ghost use Rattle.marking.specs.Typed.{typedRefusal, roomAfter};
-use bytes::copy;
 use codes::ACCEPTED;
-use codes::LINE;
-use codes::METRES;
 use codes::OUT_OF_RANGE;
-use codes::ROOM_TOO_SHORT;
-use exact::in_range;
+use numeric::Line;
+use numeric::exact::in_range;
 use sheet::accepted_line;
 use sheet::empty_line;
-use typed::answer_of;
-use typed::float_of;
-use typed::line_bytes;
-use typed::pattern_of;
+use typed::typed_refusal;
+use typed::write_line;
 
 // An answer is blank, seconds with a float, or metres with a float.
 pub enum Answer {
     Blank,
     Seconds(f32),
     Metres(f32),
-}
-
-// A sheet line: the number as given, the model value, the verdict and the signed error.
-pub struct Line {
-    pub given: f32,
-    pub model: f32,
-    pub verdict: u8,
-    pub error: i32,
 }
 
 // What marking returns: a refusal and zeros, or 0 and the line.
@@ -76,15 +59,9 @@ pub fn mark_typed(
     ensures { λ r. ⌜ (r ≡ typedRefusal kind amount speed tolerance unit (now (room .entry)))
         × (now (room .exit) ≡ roomAfter kind amount speed tolerance unit pattern (now (room .entry))) ⌝ }
 {
-    if !(in_range(kind, amount, speed, tolerance) & (unit <= METRES)) {
-        return OUT_OF_RANGE;
+    let refusal = typed_refusal(kind, amount, speed, tolerance, unit, room);
+    if refusal == ACCEPTED {
+        write_line(kind, amount, speed, tolerance, unit, pattern, room);
     }
-    if room.len() < LINE {
-        return ROOM_TOO_SHORT;
-    }
-    let answer = answer_of(unit, float_of(pattern));
-    let line = accepted_line(kind, amount, speed, tolerance, answer);
-    let bytes = line_bytes(pattern_of(unit, pattern), line);
-    copy(&bytes, room);
-    ACCEPTED
+    refusal
 }

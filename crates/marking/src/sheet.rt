@@ -2,19 +2,19 @@
 ghost use mathlib.Core.Path.{_≡_};
 ghost use Prim.Native.Nat.{_≤_};
 ghost use lib.Dec.{T};
-ghost use Rattle.marking.specs.Exact.{inRange, exactAnswer};
+ghost use Rattle.numeric.specs.Exact.{inRange, exactAnswer};
 ghost use Rattle.marking.specs.Sheet.{givenOf, sheetLine, refused};
-ghost use Rattle.marking.specs.Inner.{Small};
+ghost use Rattle.numeric.specs.Inner.{Small};
 use super::Answer;
-use super::Line;
-use super::codes::ASKS_SECONDS;
 use super::codes::IS_BLANK;
 use super::codes::OTHER_UNIT;
-use super::exact::Fraction;
-use super::exact::exact_answer;
-use super::judged::number_line;
-use super::judged::unjudged_line;
-use super::nearest::model_value;
+use numeric::Line;
+use numeric::codes::ASKS_SECONDS;
+use numeric::exact::Fraction;
+use numeric::exact::exact_answer;
+use numeric::judged::number_line;
+use numeric::judged::unjudged_line;
+use numeric::nearest::model_value;
 
 // What a refusal returns beside its number: zeros.
 pub(crate) fn empty_line() -> Line

@@ -3,16 +3,26 @@ ghost use mathlib.Core.Path.{_≡_};
 ghost use mathlib.Core.Bool.{not};
 ghost use lib.Dec.{T};
 ghost use lib.Ieee.{binary32, ofBits, isNan};
-ghost use Rattle.marking.specs.Typed.{answerOf, patternOf, word, twos, lineBytes};
+ghost use mathlib.Core.List.{_++_};
+ghost use lib.ListN.{drop};
+ghost use Rattle.marking.specs.Typed.{answerOf, patternOf, word, twos, lineBytes, typedRefusal, typedLine};
 use super::Answer;
-use super::Line;
+use super::codes::ACCEPTED;
 use super::codes::BLANK;
-use super::codes::INFINITE;
-use super::codes::MINUS_ZERO;
+use super::codes::LINE;
+use super::codes::METRES;
+use super::codes::OUT_OF_RANGE;
+use super::codes::ROOM_TOO_SHORT;
 use super::codes::SECONDS;
+use super::sheet::accepted_line;
+use bytes::copy;
+use numeric::Line;
+use numeric::codes::INFINITE;
+use numeric::codes::MINUS_ZERO;
+use numeric::exact::in_range;
 
 // The float of a pattern. Every NaN's pattern is the one NaN.
-pub(crate) fn float_of(pattern: u32) -> f32
+fn float_of(pattern: u32) -> f32
     ensures { λ r. ⌜ r ≡ ofBits binary32 pattern ⌝ }
 {
     if INFINITE < pattern % MINUS_ZERO {
@@ -22,7 +32,7 @@ pub(crate) fn float_of(pattern: u32) -> f32
     }
 }
 
-pub(crate) fn answer_of(unit: u8, x: f32) -> Answer
+fn answer_of(unit: u8, x: f32) -> Answer
     ensures { λ r. ⌜ r ≡ answerOf unit x ⌝ }
 {
     if unit == BLANK {
@@ -35,7 +45,7 @@ pub(crate) fn answer_of(unit: u8, x: f32) -> Answer
 }
 
 // The pattern as typed; blank: that of +0.
-pub(crate) fn pattern_of(unit: u8, pattern: u32) -> u32
+fn pattern_of(unit: u8, pattern: u32) -> u32
     ensures { λ r. ⌜ r ≡ patternOf unit pattern ⌝ }
 {
     if unit == BLANK { 0 } else { pattern }
@@ -64,7 +74,7 @@ fn low_byte_first(w: u32) -> [u8; 4]
 }
 
 // The line's bytes, the number's as they were typed.
-pub(crate) fn line_bytes(pattern: u32, line: Line) -> [u8; 13]
+fn line_bytes(pattern: u32, line: Line) -> [u8; 13]
     requires { ⌜ T (not (isNan (line .model))) ⌝ }
     ensures { λ r. ⌜ r ≡ lineBytes pattern line ⌝ }
 {
@@ -87,4 +97,43 @@ pub(crate) fn line_bytes(pattern: u32, line: Line) -> [u8; 13]
         e[2],
         e[3],
     ]
+}
+
+// Whether a typed answer is refused: the question and the unit byte, then the room.
+pub(crate) fn typed_refusal(
+    kind: u8,
+    amount: u32,
+    speed: u32,
+    tolerance: u32,
+    unit: u8,
+    room: &[u8],
+) -> u8
+    ensures { λ r. ⌜ r ≡ typedRefusal kind amount speed tolerance unit (now (room .entry)) ⌝ }
+{
+    if !(in_range(kind, amount, speed, tolerance) & (unit <= METRES)) {
+        return OUT_OF_RANGE;
+    }
+    if room.len() < LINE {
+        return ROOM_TOO_SHORT;
+    }
+    ACCEPTED
+}
+
+// Writes the bytes of an accepted answer's line into the room.
+pub(crate) fn write_line(
+    kind: u8,
+    amount: u32,
+    speed: u32,
+    tolerance: u32,
+    unit: u8,
+    pattern: u32,
+    room: &mut [u8],
+)
+    requires { ⌜ typedRefusal kind amount speed tolerance unit (now room) ≡ 0 ⌝ }
+    ensures { λ _. ⌜ now (room .exit) ≡ lineBytes (patternOf unit pattern) (typedLine kind amount speed tolerance unit pattern) ++ drop 13 (now (room .entry)) ⌝ }
+{
+    let answer = answer_of(unit, float_of(pattern));
+    let line = accepted_line(kind, amount, speed, tolerance, answer);
+    let bytes = line_bytes(pattern_of(unit, pattern), line);
+    copy(&bytes, room);
 }

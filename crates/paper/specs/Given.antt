@@ -1,4 +1,4 @@
--- A plan and a situation that are given apart, each as the records of a question: "exactly as they stand in a question".
+-- A plan and a situation that are given apart, each as the records of a question: exactly as they stand there.
 use mathlib.Core.Bool.{Bool, true, false}
 use mathlib.Core.List.{List}
 use Prim.Native.Nat.{ℕ}

@@ -1,4 +1,4 @@
--- The refusal of a question. "Order: 20, 1, 2, 3, 4, 21": "20 .. an EV or RD count out of range; 1 plan; 2 situation not sound", and then what
+-- The refusal of a question. "Order: 20, 1, 2, 3, 4, 21": "20 .. an EV or RD count out of range", "1 plan; 2 situation not sound", and then what
 -- its lists give. 0 is accepted.
 use Prim.Native.Nat.{ℕ}
 use mathlib.Core.Bool.{Bool}

@@ -7,4 +7,3 @@ pub mod WrittenIsRead
 pub mod OneForm
 pub mod PartsAreRefused
 pub mod NoSituation
-pub mod Longest

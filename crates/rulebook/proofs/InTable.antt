@@ -56,7 +56,7 @@ by-equation f g [] h = tt
 by-equation f g (e ∷ es) h = (ap (head-or (f e)) h, by-equation f g es (ap tail h))
 
 -- ---- from the table to the codes
-found : (P : Kind → Type 0) (es : List Kind) → All P es → P unknown → (c : ℕ) → P (find c es)
+pub found : (P : Kind → Type 0) (es : List Kind) → All P es → P unknown → (c : ℕ) → P (find c es)
 found P [] a u c = u
 found P (e ∷ es) a u c = if-case P (eqb c (e .code)) e (find c es) (λ t. a .0) (λ t. found P es (a .1) u c)
 

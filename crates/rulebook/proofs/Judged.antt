@@ -1,15 +1,18 @@
--- What is judged 0 is a plan, and a situation sound in it. Assumes nothing.
+-- A plan and a situation sound in it are judged 0, and nothing else is. Assumes nothing.
 use Prim.Native.Nat.{ℕ}
-use mathlib.Core.Path.{_≡_}
+use mathlib.Core.Path.{_≡_, refl}
 use native.Mathlib.Omega.{arith}
 use lib.Dec.{T}
 use Rattle.words.specs.Words.{if_then_else_}
-use Rattle.words.proofs.Tests.{if-case}
+use Rattle.words.proofs.Tests.{if-case, holds-is}
 use Rattle.block.specs.Line.{isPlan}
 use Rattle.block.specs.declared.line.Plan.{Plan}
 use Rattle.rulebook.specs.Situation.{Kept}
 use Rattle.rulebook.specs.Sound.{sound}
 use Rattle.rulebook.specs.Judged.{judged}
+
+pub judged-accepts : (p : Plan) → T (isPlan p) → (x : Kept) → T (sound p x) → judged p x ≡ 0
+judged-accepts p plan x t = rw (holds-is (isPlan p) plan, holds-is (sound p x) t) refl
 
 pub judged-plan : (p : Plan) (x : Kept) → judged p x ≡ 0 → T (isPlan p)
 judged-plan p x =

@@ -1,6 +1,7 @@
 pub mod Judged
 pub mod Settled
 pub mod InTable
+pub mod RefusalsBelow
 pub mod Every
 pub mod StationsKept
 pub mod Frame
@@ -8,6 +9,7 @@ pub mod Placed
 pub mod SetsKept
 pub mod Accepted
 pub mod SoundnessKept
+pub mod FiveMeans
 pub mod RefusedUnchanged
 pub mod AcceptedSomewhere
 pub mod EventsDo

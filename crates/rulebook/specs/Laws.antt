@@ -7,10 +7,10 @@ use lib.Dec.{T, eqb}
 use Rattle.words.specs.Words.{_and_, _or_, if_then_else_}
 use Rattle.sections.specs.Sections.{_belongs-to_}
 use Rattle.block.specs.Line.{isPlan}
-use Rattle.rulebook.specs.Situation.{Station, Situation, Kept, areaDirection, fresh, nobody, seen-from, held, _is-out, _is-in, _annulled, _under-AFBLI, _under-AFBLE, _has-exit-route}
+use Rattle.rulebook.specs.Situation.{Station, Situation, Kept, areaDirection, fresh, nobody, seen-from, held, withStations, _is-out, _is-in, _annulled, _under-AFBLI, _under-AFBLE, _has-exit-route}
 use Rattle.rulebook.specs.Sound.{stationSound, sound}
 use Rattle.rulebook.specs.Table.{Kind, Sobb, Cobb, Afbli, Afble, Dafbl, Bilc, Dilc, Bslg, BslgOff, Bslb, BslbOff, Reminder, ReminderOff, ExitNormal, ExitSpecial, ExitReleased, Entry, EntryReleased, Occupied, Freed, LinkLost, LinkRestored, kind-of}
-use Rattle.rulebook.specs.Apply.{refuses, leads, event, known, argument-right, spot, stepped, applied, Outcome}
+use Rattle.rulebook.specs.Apply.{refuses, leads, event, known, argument-right, spot, own-refusal, stepped, applied, Outcome}
 use Rattle.block.specs.declared.line.Plan.{Plan}
 use Rattle.block.specs.declared.line.Name.{Name}
 use Rattle.block.specs.declared.line.Name.the-variants.{StationA, StationB}
@@ -149,3 +149,18 @@ along f x (e ∷ events) = f x e ∷ along f (f x e .next) events
 
 abbrev pub StepsAgree : Type 0
 StepsAgree = (p : Plan) → T (isPlan p) → (x : Kept) → T (sound p x) → (events : List Event) → along (stepped p) x events ≡ along (applied p) x events
+
+-- ---- "Refusal 5 means that it is already so, or there is nothing to undo.": what the event does is so already; of an exit route, that there is one
+abbrev pub so-already : ℕ → Spot → Situation → Bool
+so-already c at x =
+    if eqb c (ExitNormal .code) or eqb c (ExitSpecial .code) then x .traffic .own has-exit-route else says c deeds at x
+
+abbrev pub FiveMeans : Type 0
+FiveMeans = (p : Plan) (x : Kept) (e : Event) → T (known e) → own-refusal p x e ≡ 5 → so-already (e .code) (spot p e) (seen-from (spot p e .own) x) ≡ true
+
+-- ---- of AFBLI and AFBLE: "The other station's orders never matter", nor anything else of the other station
+abbrev pub OthersNeverMatter : Type 0
+OthersNeverMatter =
+    (at : Spot) (x : Situation) (other : Station) →
+    let y = withStations (x .traffic .own) other x in
+    (refuses Afbli at y ≡ refuses Afbli at x) × (refuses Afble at y ≡ refuses Afble at x)

@@ -13,7 +13,7 @@ use Rattle.block.specs.declared.codes.Annulment.{Annulment}
 use Rattle.block.specs.declared.codes.Route.{Route}
 use Rattle.block.specs.declared.codes.Pending.{Pending}
 
--- "Per station: orientation; annulment; exit route; entry route; BILC; BSLG; blocking reminder on its first section."
+-- "Per station: orientation ..; annulment ..; exit route ..; entry route ..; BILC; BSLG; blocking reminder on its first section."
 pub record Station : Type 0 where
   pub orientation : Orientation
   pub annulment : Annulment

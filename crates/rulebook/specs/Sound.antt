@@ -17,7 +17,7 @@ module _ (t : Station) where
   abbrev pub annulled-is-none : Bool
   annulled-is-none = t annulled implies t is-none
 
-  -- "a station with an exit route has BILC off and orientation not in"
+  -- "a station with an exit route has BILC off and orientation not "in""
   abbrev pub routed-is-open : Bool
   routed-is-open = t has-exit-route implies (not (t .bilc) and not (t is-in))
 

@@ -3,3 +3,4 @@ pub mod Exchanged
 pub mod Taken
 pub mod CodeSets
 pub mod HasWords
+pub mod OpenBits

@@ -11,7 +11,7 @@ use Rattle.keytext.proofs.write_refused.Tie as tie
 put-labelled-requires : tie.Need-put-labelled-requires
 put-labelled-requires c κs =
     let n = c .before .before .before .before .args .number in
-    omega (arith, labelled-length refused-label n, decimal-short 2 n (omega arith))
+    rw labelled-length (omega (arith, decimal-short 2 n (omega arith)))
 
 returns-2 : tie.Need-returns-2
 returns-2 c =

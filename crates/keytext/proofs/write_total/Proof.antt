@@ -11,7 +11,7 @@ use Rattle.keytext.proofs.write_total.Tie as tie
 put-labelled-requires : tie.Need-put-labelled-requires
 put-labelled-requires c κs =
     let n = c .before .before .before .before .args .count in
-    omega (arith, labelled-length total-label n, decimal-short 19 n (omega arith))
+    rw labelled-length (omega (arith, decimal-short 19 n (omega arith)))
 
 returns-2 : tie.Need-returns-2
 returns-2 c =

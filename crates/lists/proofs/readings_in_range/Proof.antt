@@ -1,7 +1,13 @@
+use mathlib.Core.Bool.{Bool}
+use mathlib.Core.List.{List, _∷_}
 use mathlib.Core.Path.{_≡_, sym, ap, _∙_}
 use borrow.Author.Needs.{needs}
 use borrow.Author.Tests.{not-true, not-false}
 use lib.ListN.{length}
+use Rattle.words.specs.Words.{_and_}
+use Rattle.block.specs.declared.line.Plan.{Plan}
+use Rattle.block.specs.declared.reading.Reading.{Reading}
+use Rattle.signals.specs.Readings.{reading-in-range}
 use Rattle.records.specs.InBytes.{readings-in}
 use Rattle.records.proofs.InBytes.{part-from, readings-step, readings-end}
 use Rattle.lists.specs.Refusal.{readings-in-range}
@@ -14,13 +20,16 @@ Inv-loop plan readings left₀ left = readings-in-range plan (readings-in left) 
 abbrev μ-loop : tie.MeasureT-loop
 μ-loop plan readings left₀ left = length left
 
-returns : tie.Need-returns Inv-loop μ-loop
+-- what is judged of the first reading decides
+first-is : (p : Plan) (r : Reading) (rest : List Reading) {v : Bool} → reading-in-range p (r .kind) (r .argument) (r .value) ≡ v → readings-in-range p (r ∷ rest) ≡ (v and readings-in-range p rest)
 unfolding readings-in-range
-returns c = sym (sym (c .before .before .before .before .before .before .loop .inv) ∙ ap (readings-in-range _) (readings-step _ (c .before .before .before .before .before .loop-test .taken)) ∙ rw (sym (c .before .reading-in-range .ensures) ∙ not-true _ (c .if1 .taken)))
+first-is p r rest e = ap (λ (v : Bool). v and readings-in-range p rest) e
+
+returns : tie.Need-returns Inv-loop μ-loop
+returns c = sym (sym (c .before .before .before .before .before .before .loop .inv) ∙ ap (readings-in-range _) (readings-step _ (c .before .before .before .before .before .loop-test .taken)) ∙ first-is _ _ _ (sym (c .before .reading-in-range .ensures) ∙ not-true _ (c .if1 .taken)))
 
 loop-again : tie.Need-loop-again Inv-loop μ-loop
-unfolding readings-in-range
-loop-again c = sym (sym (c .before .before .before .before .before .before .before .loop .inv) ∙ ap (readings-in-range _) (readings-step _ (c .before .before .before .before .before .before .loop-test .taken)) ∙ rw (sym (c .before .before .reading-in-range .ensures) ∙ not-false _ (c .before .if1 .left), part-from))
+loop-again c = sym (sym (c .before .before .before .before .before .before .before .loop .inv) ∙ ap (readings-in-range _) (readings-step _ (c .before .before .before .before .before .before .loop-test .taken)) ∙ first-is _ _ _ (sym (c .before .before .reading-in-range .ensures) ∙ not-false _ (c .before .if1 .left)) ∙ rw part-from)
 
 returns-2 : tie.Need-returns-2 Inv-loop μ-loop
 unfolding readings-in-range

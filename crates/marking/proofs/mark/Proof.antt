@@ -3,8 +3,8 @@ use mathlib.Core.Path.{_≡_, sym, ap, _∙_, subst}
 use mathlib.Core.Bool.{Bool, true, false}
 use lib.Dec.{T}
 use borrow.Author.Needs.{needs}
-use Rattle.marking.specs.Exact.{inRange}
-use Rattle.marking.proofs.Comparing.{holds, fails}
+use Rattle.numeric.specs.Exact.{inRange}
+use Rattle.numeric.proofs.Comparing.{holds, fails}
 use Rattle.marking.proofs.Lines.{with-line, marked-by}
 use Rattle.marking.proofs.mark.Statement.{statement}
 use Rattle.marking.proofs.mark.Tie as tie

@@ -3,6 +3,7 @@ use mathlib.Core.Path.{_≡_, sym, _∙_}
 use mathlib.Core.Bool.{true}
 use borrow.Author.Tests.{not-true, not-false}
 use Rattle.soundness.proofs.SoundLaws.{named, some-unnamed, exits-decide}
+use Rattle.sections.specs.Sections.{_belongs-to_}
 use Rattle.situation.specs.Packed.{unpacked}
 use borrow.Author.Needs.{needs}
 use Rattle.soundness.proofs.sets_sound.Statement.{statement}
@@ -17,7 +18,7 @@ returns-2 : tie.Need-returns-2
 returns-2 c =
     let a = c .before .before .before .before .before .before .before .args in
     let n : named (a .plan) (unpacked (a .x)) ≡ true = rw (c .before .before .before .before .before .held2 .ensures, c .before .before .before .before .before .before .held .ensures) at (sym (c .before .before .before .sections-up-to .ensures) ∙ not-false _ (c .before .before .if1 .left)) in
-    let exit = rw (c .before .before .before .before .before .before .held .ensures) at (sym (c .before .has .ensures) ∙ c .if2 .taken) in
+    let exit : (1 belongs-to unpacked (a .x) .signals .held .towardsb) ≡ true = rw (c .before .before .before .before .before .before .held .ensures) at (sym (c .before .has .ensures) ∙ c .if2 .taken) in
     rw (← exits-decide (a .plan) (unpacked (a .x)) n, exit)
 
 returns-3 : tie.Need-returns-3

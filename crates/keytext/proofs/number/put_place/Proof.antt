@@ -1,4 +1,4 @@
--- One digit, two digits one after the other, or what the number leaves.
+-- One digit, two digits of which the first is 1, or what the number leaves.
 use borrow.Author.Needs.{needs}
 use native.Mathlib.Omega.{arith}
 use lib.ListN.{length-set}
@@ -15,9 +15,9 @@ returns c =
 returns-2 : tie.Need-returns-2
 returns-2 c =
     let ten = c .before .before .before .if1 .left in
-    let hundred = c .before .before .if2 .taken in
-    let l = length-two _ ten hundred in
-    (rw l, rw (decimal-two _ ten hundred, c .before .digit2 .ensures, c .digit3 .ensures) (over-two _ _ _ _ (omega arith)))
+    let twenty = c .before .before .if2 .taken in
+    let l = length-two _ ten twenty in
+    (rw l, rw (decimal-two _ ten twenty, c .before .digit2 .ensures, c .digit3 .ensures) (over-two _ _ _ _ (omega arith)))
 
 pub put-place-spec : {M : Type 1} → statement M
 put-place-spec =

@@ -2,8 +2,8 @@
 use mathlib.Core.Path.{_∙_, ap}
 use borrow.Author.Needs.{needs}
 use Rattle.marking.specs.Sheet.{sheetLine}
-use Rattle.marking.specs.declared.exact.Fraction.{Fraction}
-use Rattle.marking.proofs.Ranges.{ranged}
+use Rattle.numeric.specs.declared.exact.Fraction.{Fraction}
+use Rattle.numeric.proofs.Ranges.{ranged}
 use Rattle.marking.proofs.sheet.accepted_line.Statement.{statement}
 use Rattle.marking.proofs.sheet.accepted_line.Tie as tie
 

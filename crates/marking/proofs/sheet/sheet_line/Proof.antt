@@ -10,9 +10,10 @@ use denote.Enum.Declared.{tagOf}
 use borrow.Author.Needs.{needs}
 use borrow.Author.Tests.{eq-eqb, ne-eqb}
 use Rattle.words.specs.Words.{if_then_else_}
-use Rattle.marking.specs.Sheet.{unitOf, givenOf, unitAsked, numberVerdict, verdictOf, lineAt, sheetLine}
+use Rattle.numeric.specs.Number.{numberVerdict, lineAt}
+use Rattle.marking.specs.Sheet.{unitOf, givenOf, unitAsked, verdictOf, sheetLine}
 use Rattle.marking.specs.declared.Answer.{Answer}
-use Rattle.marking.specs.declared.Line.{Line}
+use Rattle.numeric.specs.declared.Line.{Line}
 use Rattle.marking.proofs.Answer.{the-type}
 use Rattle.marking.proofs.Units.{other-than, unjudged, other-unit, asked-unit}
 use Rattle.marking.proofs.sheet.sheet_line.Statement.{statement}

@@ -1,5 +1,5 @@
 -- `float_of`: a NaN's pattern is not handed to the cast, which asks that; 0.0 / 0.0 is the NaN.
-use Rattle.marking.proofs.Patterns.{no-nan-bits, nan-bits}
+use Rattle.numeric.proofs.Patterns.{no-nan-bits, nan-bits}
 use borrow.Author.Needs.{needs}
 use Rattle.marking.proofs.typed.float_of.Statement.{statement}
 use Rattle.marking.proofs.typed.float_of.Tie as tie

@@ -9,7 +9,7 @@ use mir.Syntax.{w32}
 use mir.Val.{Fits, SFits}
 use mir.ValLaws.{toZ-ofZ}
 use Rattle.marking.specs.Typed.{twos}
-use Rattle.marking.proofs.Signs.{is-negative, is-positive, flipped, flipped-back}
+use Rattle.numeric.proofs.Signs.{is-negative, is-positive, flipped, flipped-back}
 use Rattle.marking.proofs.typed.two_complement.Statement.{statement}
 use Rattle.marking.proofs.typed.two_complement.Tie as tie
 

@@ -34,7 +34,8 @@ loop-again c =
     let place = getD (now (a .places)) (l .i) 0 in
     let on : Kept → Outcome = λ y. runFrom R y (l .i + 1 + 1) (drop (l .i + 1) (now (a .places))) in
     let permitted = s .pre .0 .1 (l .i) (omega arith) in
-    let accepted = sym (tried-refusal (a .plan) (unpacked (l .x)) (events-in (now (a .events))) place (c .before .before .before .event-at .ensures) (permitted .0) (permitted .1) (s .pre .1 .0) (c .before .before .own-refusal .ensures)) ∙ c .before .if2 .left in
+    let not-refused : c .before .before .own-refusal .result ≡ 0 = omega (arith, c .before .if2 .left) in
+    let accepted = sym (tried-refusal (a .plan) (unpacked (l .x)) (events-in (now (a .events))) place (c .before .before .before .event-at .ensures) (permitted .0) (permitted .1) (s .pre .1 .0) (c .before .before .own-refusal .ensures)) ∙ not-refused in
     (omega arith, sym (sym (l .inv .1) ∙ run-step R (unpacked (l .x)) (now (a .places)) (l .i) (omega arith) ∙ ap (λ (v : Bool). cond v (on (R .next (unpacked (l .x)) place)) (stopped (l .i + 1) (R .refusal (unpacked (l .x)) place))) (eq-eqb _ 0 accepted) ∙ ap on (sym (tried-next (a .plan) (unpacked (l .x)) (events-in (now (a .events))) place (c .before .before .before .event-at .ensures) accepted (c .next .ensures)))))
 
 returns : tie.Need-returns Inv-loop μ-loop

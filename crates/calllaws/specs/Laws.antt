@@ -1,0 +1,59 @@
+-- What is proved of the calls together, each law as a statement, proved under the same name in proofs/.
+use Prim.Native.Nat.{ℕ, _≤_, _<_}
+use mathlib.Core.Path.{_≡_}
+use mathlib.Core.Logic.{_↔_}
+use mathlib.Core.Bool.{true, false}
+use mathlib.Core.List.{List, [], _∷_, _++_, List·Memᴰ}
+use lib.ListN.{length as size, getD}
+use Rattle.keylaws.specs.Rules.{Word}
+use Rattle.keylaws.specs.Order.{before}
+use Rattle.keylaws.specs.Slots.{slots}
+use Rattle.keylaws.specs.Continuation.{fromStart}
+use Rattle.keylaws.specs.Parts.{joined, total, remain, Rooms}
+use Rattle.block.specs.declared.event.Event.{Event}
+use Rattle.forms.specs.Whole.{accepted}
+use Rattle.paper.specs.Question.{Question}
+use Rattle.paper.specs.Given.{given}
+use Rattle.keys.specs.Key.{Accepted, question-in, key-of}
+use Rattle.calllaws.specs.Told.{Call}
+use Rattle.calllaws.specs.KeyCalls.{key-calls, parts-told, NoneRefused}
+use Rattle.calllaws.specs.EventCalls.{Lent, events-lent, Rooms96, AllAnswer0, records-at-the-end, AllGive}
+use Rattle.calllaws.specs.Answers.{events-of, events-in-key, Permitted, Right}
+
+-- ---- demand 3: the key holds every right sequence, once, in order, and nothing else; parts joined are the same key
+-- the calls fetch the key: none is refused, they end, their slots joined are the slots of the key, and their counts are its length
+pub record Fetches (question : List ℕ) (calls : List Call) : Type 0 where
+  pub none-refused : NoneRefused calls
+  pub ended : remain (parts-told calls) ≡ false
+  pub slots-joined : joined (parts-told calls) ≡ slots (key-of (question-in question))
+  pub counted : total (parts-told calls) ≡ size (key-of (question-in question))
+
+-- the key is exactly the right sequences, in order, each once
+pub record Complete (q : Question) : Type 0 where
+  pub exactly : (events : List Event) → List·Memᴰ events (events-in-key q) ↔ Right q events
+  pub once : (i j : ℕ) → i < size (key-of q) → j < size (key-of q) → events-of q (getD (key-of q) i []) ≡ events-of q (getD (key-of q) j []) → i ≡ j
+  pub in-order : (i j : ℕ) → i < j → j < size (key-of q) → before (getD (key-of q) i []) (getD (key-of q) j []) ≡ true
+  pub extensions-later : (i j : ℕ) → i < size (key-of q) → j < size (key-of q) → (p : ℕ) (v : Word) → getD (key-of q) j [] ≡ getD (key-of q) i [] ++ (p ∷ v) → i < j
+
+-- for accepted bytes and enough rooms of six bytes or more: one at least, and as many as the key has slots
+abbrev pub Demand3 : Type 0
+Demand3 =
+    (question : List ℕ) → Accepted question →
+    Complete (question-in question)
+    × ((rooms : List (List ℕ)) → Rooms rooms → 1 ≤ size rooms → size (key-of (question-in question)) ≤ size rooms → Fetches question (key-calls question fromStart rooms))
+
+-- ---- from event calls to the key
+-- what event and reading calls show of a sequence, from the question's own plan and situation
+pub record ShownByCalls (q : Question) (plan situation : List ℕ) (lent : List Lent) : Type 0 where
+  pub short : size lent ≤ q .length
+  pub permitted : Permitted q (events-lent lent)
+  pub accepted : AllAnswer0 plan situation lent
+  pub readings : AllGive plan (records-at-the-end plan situation lent) (q .readings)
+
+-- a sequence is in the key exactly if the event calls, each on the records that the one before wrote, all answer 0, and at the end every reading call gives the value asked
+abbrev pub CallsAgree : Type 0
+CallsAgree =
+    (question plan situation : List ℕ) → Accepted question →
+    let q = question-in question in
+    given plan situation ≡ accepted (record { plan = q .plan; situation = q .situation }) →
+    (lent : List Lent) → Rooms96 lent → List·Memᴰ (events-lent lent) (events-in-key q) ↔ ShownByCalls q plan situation lent

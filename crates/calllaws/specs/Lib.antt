@@ -1,0 +1,5 @@
+pub mod Told
+pub mod KeyCalls
+pub mod EventCalls
+pub mod Answers
+pub mod Laws

@@ -1,3 +1,0 @@
-pub mod OneCall
-pub mod SixBytes
-pub mod Steps

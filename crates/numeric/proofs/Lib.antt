@@ -1,0 +1,11 @@
+-- Lemmas that belong to no one function.
+pub mod Comparing
+pub mod Ranges
+pub mod Quotient
+pub mod Rounding
+pub mod Patterns
+pub mod Cutting
+pub mod Scaling
+pub mod SameValue
+pub mod Signs
+pub mod NumberLine

@@ -1,0 +1,63 @@
+-- A question has at most 76 bytes, as many as its five records have one after the other; whatever is longer has "bytes .. left over": 20.
+-- Assumes nothing.
+use Prim.Native.Nat.{ℕ, _+_, _≤_, _<_}
+use mathlib.Core.Path.{_≡_}
+use mathlib.Core.List.{List}
+use lib.ListN.{length}
+use Rattle.forms.specs.Form.{Form}
+use Rattle.forms.specs.Compose.{byte, _⊗_, section}
+use Rattle.forms.proofs.Sizes.{byte-takes, section-takes}
+use Rattle.forms.proofs.Bounded.{Bounded, size-bounded, sequence-bounded, letters-bounded, counted-bounded, named-bounded, accepted-bounded, longer-is-refused}
+use Rattle.records.specs.Plan.{LB, plan-of, plan-parts, plan}
+use Rattle.records.specs.Situation.{SI, pair, codes-made, code-parts, situation}
+use Rattle.records.specs.Lists.{EV, RD, LN, event-of, event-parts, events, reading-of, reading-parts, readings, answer-length}
+use Rattle.records.specs.Question.{question}
+use Rattle.records.proofs.QuestionLaws.{question-law}
+use Rattle.paper.specs.Read.{refused, readOf}
+use Rattle.paper.proofs.ReadBytes.{no-form-is-20, accepted-bytes}
+
+infixr 30 _&_
+abbrev _&_ : {A B : Type 0} {m n : ℕ} {F : Form A} {G : Form B} → Bounded m F → Bounded n G → Bounded (m + n) (F ⊗ G)
+Y & Z = sequence-bounded Y (λ _. Z)
+
+a-byte : Bounded 1 byte
+a-byte = size-bounded (byte-takes .sized)
+
+a-pair : Bounded 2 pair
+a-pair = a-byte & a-byte
+
+a-field : Bounded 2 (section 2)
+a-field = size-bounded (section-takes 2 .sized)
+
+plan-bounded : Bounded 4 plan
+unfolding plan
+plan-bounded = letters-bounded LB (named-bounded plan-of plan-parts (a-byte & a-byte))
+
+situation-bounded : Bounded 21 situation
+unfolding situation
+situation-bounded =
+    letters-bounded SI
+    (named-bounded codes-made code-parts
+    (a-byte & a-pair & a-pair & a-pair & a-pair & a-byte & a-byte & a-byte & a-byte & a-field & a-field & a-field))
+
+events-bounded : Bounded 27 events
+unfolding events
+events-bounded = letters-bounded EV (counted-bounded (named-bounded event-of event-parts (a-byte & a-byte)) 1 12)
+
+readings-bounded : Bounded 21 readings
+unfolding readings
+readings-bounded = letters-bounded RD (counted-bounded (named-bounded reading-of reading-parts (a-byte & a-byte & a-byte)) 0 6)
+
+length-bounded : Bounded 3 answer-length
+unfolding answer-length
+length-bounded = letters-bounded LN a-byte
+
+pub question-bounded : Bounded 76 question
+unfolding question
+question-bounded = plan-bounded & situation-bounded & events-bounded & readings-bounded & length-bounded
+
+pub at-most-76-bytes : (bytes : List ℕ) → readOf bytes .refusal ≡ 0 → length bytes ≤ 76
+at-most-76-bytes bytes ok = let a = accepted-bytes bytes ok in accepted-bounded (question-law .lawful) question-bounded bytes (a .parts) (a .form)
+
+pub longer-than-76-is-refused : (bytes : List ℕ) → 76 < length bytes → readOf bytes ≡ refused 20
+longer-than-76-is-refused bytes h = no-form-is-20 bytes (longer-is-refused (question-law .lawful) question-bounded bytes h)
