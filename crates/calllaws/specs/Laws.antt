@@ -50,7 +50,8 @@ pub record ShownByCalls (q : Question) (plan situation : List ℕ) (lent : List 
   pub accepted : AllAnswer0 plan situation lent
   pub readings : AllGive plan (records-at-the-end plan situation lent) (q .readings)
 
--- a sequence is in the key exactly if the event calls, each on the records that the one before wrote, all answer 0, and at the end every reading call gives the value asked
+-- a sequence is in the key exactly if it is of permitted events, up to the length, and the event calls, each on the records that the one before wrote and
+-- with a room of 96 bytes or more, all answer 0, and at the end every reading call gives the value asked
 abbrev pub CallsAgree : Type 0
 CallsAgree =
     (question plan situation : List ℕ) → Accepted question →

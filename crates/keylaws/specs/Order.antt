@@ -4,7 +4,7 @@ use mathlib.Core.List.{[], _∷_}
 use lib.Dec.{ltb, eqb}
 use Rattle.keylaws.specs.Rules.{Word}
 
--- "Slots are ordered by their places from the left, and a sequence stands before its extensions."
+-- "slots are ordered by their places from the left, and a sequence stands before its extensions"
 unfoldable pub before : Word → Word → Bool
 before [] [] = false
 before [] (q ∷ w) = true

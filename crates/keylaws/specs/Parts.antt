@@ -17,7 +17,7 @@ pub record Part : Type 0 where
 abbrev pub handed : List ℕ → ℕ → Bool → Part
 handed room count more = record { room = room; count = count; more = more }
 
--- "The call returns how many were written, as many as fit or remain, and whether more remain. Bytes after them keep their values."
+-- "the call returns how many were written, as many as fit or remain, and whether more remain. Bytes after them keep their values."
 unfoldable pub part : List Word → List ℕ → Part
 part ws room =
     let fit = length room / 6 in

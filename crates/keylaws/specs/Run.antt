@@ -16,7 +16,7 @@ stopped i r = record { place = i; refusal = r; holds = false }
 abbrev pub ended : Bool → Outcome
 ended b = record { place = 0; refusal = 0; holds = b }
 
--- "It stops at the first refused event and tells its place and refusal, or says whether all readings hold." From s, where the next event is the i-th.
+-- "it stops at the first refused event and tells its place and refusal, or says whether all readings hold." From s, where the next event is the i-th.
 unfoldable pub runFrom : (R : Rules) → R .Situation → ℕ → Word → Outcome
 runFrom R s i [] = ended (R .holds s)
 runFrom R s i (p ∷ w) = cond (accepts R s p) (runFrom R (R .next s p) (i + 1) w) (stopped i (R .refusal s p))

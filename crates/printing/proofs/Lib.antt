@@ -4,3 +4,4 @@ pub mod FromKey
 pub mod PiecesJoined
 pub mod EnoughInput
 pub mod ShortText
+pub mod MarkedRun

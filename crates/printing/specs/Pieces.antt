@@ -21,7 +21,7 @@ start = record { after = fromStart; total = 0; ended = false }
 abbrev pub the-end : Progress
 the-end = record { after = fromStart; total = 0; ended = true }
 
--- the refusal of the question; of a progress that is none of its own, that of the place to continue after: 22
+-- the refusal of the question; of a progress whose place to continue after is malformed: 22
 abbrev pub refusal : List ℕ → Progress → ℕ
 refusal bytes progress =
     if eqb (readOf bytes .refusal) 0 then

@@ -158,15 +158,15 @@ module _ (at : Place) (x : Situation) where
   abbrev pub entry-released : Row
   entry-released = 5 when not (own .entry) ┃ ⟶ withOwn (withEntry false own) x
 
-  -- | 19, 20 | section k occupied, freed | 5 | own is k's owner |
-  -- "If unexpected, s's annulment becomes 0, except that AFBLE at s stays when k is s's first section."
+  -- | 19, 20 | section occupied, freed | 5 | see below |: "Occupied k, owner s", which is own
+  -- "If unexpected, s's annulment becomes 0, except that AFBLE at s stays when k is s's first section"
   abbrev pub annulment-kept : Bool
   annulment-kept = at .expected or (own under-AFBLE and at .first)
 
   abbrev pub taken : Situation
   taken = withOwn (own annulled-by (if annulment-kept then own .annulment else no-annulment)) (withTrack (withOccupied (track .occupied with-section k) track) x)
 
-  -- "Separately, if k is s's first section, s is in, and the line was free, s becomes out and the other in."
+  -- "Separately, if k is s's first section, s is in, and the line was free, s becomes out and the other in"
   abbrev pub turns : Bool
   turns = at .first and own is-in and line-free
 
