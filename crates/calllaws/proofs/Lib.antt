@@ -6,3 +6,5 @@ pub mod KeyFetched
 pub mod Demand3
 pub mod OneEvent
 pub mod CallsAgree
+pub mod KeysStay
+pub mod RunStops

@@ -20,7 +20,9 @@ use Rattle.rulebook.specs.Situation.{Kept}
 use Rattle.rulebook.specs.Sound.{sound}
 use Rattle.rulebook.specs.Judged.{judged}
 use Rattle.rulebook.specs.Apply.{event, known, argument-right, own-refusal, reached, accepted, refused, acted, stepped, applied, Outcome}
+use Rattle.rulebook.specs.Names.{name}
 use Rattle.rulebook.proofs.RefusalsBelow.{applied-below}
+use Rattle.rulebook.proofs.NamesRight.{name-below}
 use Rattle.rulebook.proofs.SoundnessKept.{soundness-kept}
 use Rattle.records.specs.Plan.{plan}
 use Rattle.records.specs.Situation.{codes-of, situation}
@@ -31,12 +33,12 @@ use Rattle.paper.specs.Given.{Given, given-by, given}
 use Rattle.folvkin.specs.Block.{tried-refusal, record-after, told-with, room-with, event-packed, event-room}
 use Rattle.calllaws.proofs.FieldsReadBack.{event-number}
 use Rattle.calllaws.proofs.LaidEndToEnd.{alone}
-use Rattle.calllaws.specs.Told.{Call, refusal-told}
+use Rattle.calllaws.specs.Told.{Call, refusal-told, second-told}
 use Rattle.calllaws.specs.EventCalls.{Lent, event-call, records-left}
 
 -- ---- the order of refusals: with room enough, as `applied` has it
 in-order : (j own : ℕ) (k r : Bool) (x y : Kept)
-    → (j or-else (3 unless k or-else 4 unless r) or-else 24 unless true) or-else own
+    → j or-else (3 unless k or-else 4 unless r) or-else 24 unless true or-else own
     ≡ (if eqb j 0 then
     (if not k then refused 3 x else
     if not r then refused 4 x else
@@ -49,7 +51,7 @@ in-order j own k r x y = go (eqb j 0) refl k r
     last false e = refl
 
     go : (v : Bool) → eqb j 0 ≡ v → (k r : Bool)
-        → (j or-else (3 unless k or-else 4 unless r) or-else 24 unless true) or-else own
+        → j or-else (3 unless k or-else 4 unless r) or-else 24 unless true or-else own
         ≡ (if eqb j 0 then
         (if not k then refused 3 x else
         if not r then refused 4 x else
@@ -58,7 +60,7 @@ in-order j own k r x y = go (eqb j 0) refl k r
     go true e true true = rw e (last (eqb own 0) refl)
     go true e true false = rw e refl
     go true e false r = rw e refl
-    go false e k r = rw (e, e) refl
+    go false e k r = rw e refl
 
 module _ (p : Plan) (x : Kept) (e : Event) where
   tried-is-applied : (n : ℕ) → 96 ≤ n → tried-refusal p x e n ≡ applied p x e .refusal
@@ -99,21 +101,30 @@ module _ (p : Plan) (planned : T (isPlan p)) (plan-bytes : List ℕ) where
     refusal = applied p x e .refusal
 
     abbrev call-with : ℕ → List ℕ → Call
-    call-with r after = record { told = told-with r after; room = room-with r after (l .room) }
+    call-with r after = record { told = told-with r (name p x e r) after; room = room-with r after (l .room) }
 
     told-is : event-call plan-bytes bytes l ≡ call-with refusal (record-after p x e)
     told-is =
         ap (λ (w : Whole Given). record { told = event-packed w (e .code ∷ e .argument ∷ []) (l .room); room = event-room w (e .code ∷ e .argument ∷ []) (l .room) }) g
         ∙ ap (λ (r : ℕ). call-with r (record-after p x e)) (tried-is-applied p x e (length (l .room)) h)
 
+    fields : (refusal-told (event-call plan-bytes bytes l) ≡ refusal) × (second-told (event-call plan-bytes bytes l) ≡ name p x e refusal)
+    fields =
+        let number = event-number refusal (name p x e refusal) (record-after p x e) (omega (arith, applied-below p x e)) (name-below p planned x e refusal) in
+        (ap refusal-told told-is ∙ number .0, ap second-told told-is ∙ number .1)
+
     pub answers : refusal-told (event-call plan-bytes bytes l) ≡ refusal
-    answers = ap refusal-told told-is ∙ event-number refusal (record-after p x e) (omega (arith, applied-below p x e)) .0
+    answers = fields .0
+
+    -- `refusal + 2^8 name + 2^16 length`
+    pub names : second-told (event-call plan-bytes bytes l) ≡ name p x e refusal
+    names = fields .1
 
     module _ (yes : refusal ≡ 0) where
       left : records-left (event-call plan-bytes bytes l) ≡ record-after p x e
       left =
           let after = record-after p x e in
-          let long = event-number 0 after (omega arith) .2 in
+          let long = event-number 0 0 after (omega arith) (omega arith) .2 in
           ap records-left (told-is ∙ ap (λ (r : ℕ). call-with r after) yes)
           ∙ ap (λ (n : ℕ). take n (after ++ drop (length after) (l .room))) long
           ∙ take-append-seam after (drop (length after) (l .room))

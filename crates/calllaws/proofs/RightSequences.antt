@@ -35,13 +35,13 @@ module _ (q : Question) where
   turns-accepted [] x a = tt
   turns-accepted (p ∷ w) x a = (a 0 (omega arith), turns-accepted w (rules q .next x p) (λ i h. a (suc i) (omega arith)))
 
-  accepted-turns : (w : Word) (x : Kept) → AllAccepted (steps x w) → Accepted (rules q) x w
+  pub accepted-turns : (w : Word) (x : Kept) → AllAccepted (steps x w) → Accepted (rules q) x w
   unfolding reached
   accepted-turns [] x a i h = absurd (omega arith)
   accepted-turns (p ∷ w) x a zero h = a .0
   accepted-turns (p ∷ w) x a (suc i) h = accepted-turns w (rules q .next x p) (a .1) i (omega arith)
 
-  reached-at-the-end : (w : Word) (x : Kept) → reached (rules q) x w ≡ at-the-end x (steps x w)
+  pub reached-at-the-end : (w : Word) (x : Kept) → reached (rules q) x w ≡ at-the-end x (steps x w)
   unfolding reached
   reached-at-the-end [] x = refl
   reached-at-the-end (p ∷ w) x = reached-at-the-end w (rules q .next x p)
@@ -57,7 +57,7 @@ module _ (q : Question) where
     lists : ListsRight (q .plan) (q .events) (q .readings) (q .length)
     lists = lists-right (q .plan) (q .events) (q .readings) (q .length) (ok .lists)
 
-    agree : (w : Word) → steps (q .situation) w ≡ outcomes q (events-of q w)
+    pub agree : (w : Word) → steps (q .situation) w ≡ outcomes q (events-of q w)
     agree w = steps-agree (q .plan) (ok .plan) (q .situation) (ok .situation) (events-of q w)
 
     holds-at : List Outcome → Type 0

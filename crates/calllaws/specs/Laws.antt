@@ -1,24 +1,33 @@
 -- What is proved of the calls together, each law as a statement, proved under the same name in proofs/.
-use Prim.Native.Nat.{ℕ, _≤_, _<_}
+use Prim.Native.Nat.{ℕ, _+_, _≤_, _<_}
 use mathlib.Core.Path.{_≡_}
 use mathlib.Core.Logic.{_↔_}
 use mathlib.Core.Bool.{true, false}
 use mathlib.Core.List.{List, [], _∷_, _++_, List·Memᴰ}
-use lib.ListN.{length as size, getD}
-use Rattle.keylaws.specs.Rules.{Word}
+use lib.ListN.{length as size, take, getD}
+use Rattle.keylaws.specs.Rules.{Rules, Word}
+use Rattle.keylaws.specs.Key.{answers}
 use Rattle.keylaws.specs.Order.{before}
-use Rattle.keylaws.specs.Slots.{slots}
+use Rattle.keylaws.specs.Slots.{slots, wordOf, isSlot}
+use Rattle.keylaws.specs.Run.{stopped}
 use Rattle.keylaws.specs.Continuation.{fromStart}
 use Rattle.keylaws.specs.Parts.{joined, total, remain, Rooms}
 use Rattle.block.specs.declared.event.Event.{Event}
+use Rattle.rulebook.specs.Situation.{Kept}
+use Rattle.rulebook.specs.Apply.{applied, Outcome}
+use Rattle.rulebook.specs.Names.{name}
+use Rattle.rulebook.specs.Laws.{stepped-in-01}
+use Rattle.records.specs.Lists.{event-at}
 use Rattle.forms.specs.Whole.{accepted}
 use Rattle.paper.specs.Question.{Question}
 use Rattle.paper.specs.Given.{given}
-use Rattle.keys.specs.Key.{Accepted, question-in, key-of}
+use Rattle.keys.specs.Key.{Accepted, question-in, rules, key-of}
+use Rattle.keys.specs.Calls.{told}
+use Rattle.folvkin.specs.Questions.{packed-run, run-packed}
 use Rattle.calllaws.specs.Told.{Call}
 use Rattle.calllaws.specs.KeyCalls.{key-calls, parts-told, NoneRefused}
 use Rattle.calllaws.specs.EventCalls.{Lent, events-lent, Rooms96, AllAnswer0, records-at-the-end, AllGive}
-use Rattle.calllaws.specs.Answers.{events-of, events-in-key, Permitted, Right}
+use Rattle.calllaws.specs.Answers.{events-of, events-in-key, outcomes, AllAccepted, at-the-end, Permitted, Right}
 
 -- ---- demand 3: the key holds every right sequence, once, in order, and nothing else; parts joined are the same key
 -- the calls fetch the key: none is refused, they end, their slots joined are the slots of the key, and their counts are its length
@@ -58,3 +67,27 @@ CallsAgree =
     let q = question-in question in
     given plan situation ≡ accepted (record { plan = q .plan; situation = q .situation }) →
     (lent : List Lent) → Rooms96 lent → List·Memᴰ (events-lent lent) (events-in-key q) ↔ ShownByCalls q plan situation lent
+
+-- ---- a candidate's run, by the contract of `folvkin_run`: it stops at the first event that is refused, applied where those before it have led, and
+-- tells its place, its refusal and what that names (02, Req 01)
+abbrev pub RunStops : Type 0
+RunStops =
+    (question slot : List ℕ) → Accepted question →
+    let q = question-in question in
+    let places = wordOf slot in
+    isSlot (rules q .events) (q .length) slot ≡ true → (i : ℕ) → i < size places →
+    let before = outcomes q (events-of q (take i places)) in
+    let x = at-the-end (q .situation) before in
+    let e = event-at (q .events) (getD places i 0) in
+    let refusal = applied (q .plan) x e .refusal in
+    AllAccepted before → (refusal ≡ 0 → ⊥) →
+    run-packed question slot ≡ packed-run (told (stopped (i + 1) refusal) (name (q .plan) x e refusal))
+
+-- ---- (02, Req 01) "keys do not change": the key of every question is the list of answers by document 01's rows
+abbrev pub rules-in-01 : Question → Rules
+rules-in-01 q =
+    let step : Kept → ℕ → Outcome = λ x place. stepped-in-01 (q .plan) x (event-at (q .events) place) in
+    record { Situation = Kept; events = rules q .events; refusal = λ x place. step x place .refusal; next = λ x place. step x place .next; holds = rules q .holds }
+
+abbrev pub KeysStay : Type 0
+KeysStay = (q : Question) → key-of q ≡ answers (rules-in-01 q) (q .length) (q .situation)

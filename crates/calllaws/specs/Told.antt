@@ -6,7 +6,7 @@ pub record Call : Type 0 where
   pub told : ℕ
   pub room : List ℕ
 
--- the refusal in the lowest byte, then a byte, then the rest
+-- of an event call and of a key call: the refusal in the lowest byte, then a byte, then the rest
 abbrev pub refusal-told : Call → ℕ
 refusal-told c = c .told % 256
 

@@ -1,7 +1,8 @@
 // Orders and happenings: an event on a situation as it is kept.
 ghost use mathlib.Core.Path.{_≡_};
 ghost use Rattle.rulebook.specs.Table.{station, section, kind-of, Occupied};
-ghost use Rattle.rulebook.specs.Apply.{fits, known, argument-right, spot-named, led-at, own-refusal, reached, stepped, applied};
+ghost use Rattle.rulebook.specs.Apply.{fits, known, argument-right, spot-named, led-at, own-refusal, reached, refused, stepped, applied};
+ghost use Rattle.rulebook.specs.Names.{name};
 ghost use Rattle.situation.specs.Packed.{unpacked};
 ghost use Rattle.events.specs.Outcomes.{outcome};
 use block::event::Event;
@@ -10,8 +11,12 @@ use block::line::Plan;
 use block::line::direction_of;
 use block::line::section_of;
 use block::line::station_named;
+use block::refused::EXIT_ROUTE;
+use block::refused::OCCUPIED;
 use block::refused::UNKNOWN_CODE;
 use block::refused::WRONG_ARGUMENT;
+use names::lowest_occupied;
+use names::route_holder;
 use situation::Situation;
 use soundness::judged;
 
@@ -26,9 +31,10 @@ const SECTION: u8 = 3;
 
 const NOTHING: u8 = 4;
 
-// The refusal, 0 where the event is accepted, and the situation after.
+// The refusal, 0 where the event is accepted, what it names, and the situation after.
 pub struct Applied {
     pub refusal: u8,
+    pub name: u8,
     pub next: Situation,
 }
 
@@ -192,6 +198,21 @@ pub fn next(plan: Plan, x: Situation, event: Event) -> Situation
     }
 }
 
+// What the refusal of an event names, asked after it. Of those that 9 refuses, SOBB and COBB check any exit route.
+pub fn name_of(plan: Plan, x: Situation, event: Event, refusal: u8) -> u8
+    ensures { λ r. ⌜ r ≡ name plan (unpacked x) event refusal ⌝ }
+{
+    if refusal == OCCUPIED {
+        return lowest_occupied(plan, x);
+    }
+    if refusal == EXIT_ROUTE {
+        let any = (event.code == 1) | (event.code == 2);
+        let own = station_named(event.argument);
+        return route_holder(x, any, own);
+    }
+    0
+}
+
 // Refusals 3 unknown code, 4 argument, then the event's own, for a plan and a situation that are judged already.
 fn refusal(plan: Plan, x: Situation, event: Event) -> u8
     ensures { λ r. ⌜ r ≡ stepped plan (unpacked x) event .refusal ⌝ }
@@ -205,26 +226,45 @@ fn refusal(plan: Plan, x: Situation, event: Event) -> u8
     own_refusal(plan, x, event)
 }
 
+// A refused event hands the situation back unchanged.
+fn refused(plan: Plan, x: Situation, event: Event, refusal: u8) -> Applied
+    ensures { λ r. ⌜ outcome r ≡ refused refusal (unpacked x) ⌝ }
+    ensures { λ r. ⌜ r .name ≡ name plan (unpacked x) event (r .refusal) ⌝ }
+{
+    let name = name_of(plan, x, event, refusal);
+    Applied {
+        refusal,
+        name,
+        next: x,
+    }
+}
+
 // A plan and a situation that are judged already.
 fn step(plan: Plan, x: Situation, event: Event) -> Applied
     ensures { λ r. ⌜ outcome r ≡ stepped plan (unpacked x) event ⌝ }
+    ensures { λ r. ⌜ r .name ≡ name plan (unpacked x) event (r .refusal) ⌝ }
 {
     let refusal = refusal(plan, x, event);
     if refusal != 0 {
-        return Applied { refusal, next: x };
+        return refused(plan, x, event, refusal);
     }
     let next = next(plan, x, event);
-    Applied { refusal: 0, next }
+    Applied {
+        refusal: 0,
+        name: 0,
+        next,
+    }
 }
 
-// Refusals 1 plan, 2 situation not sound, 3 unknown code, 4 argument, then the event's own. A refused event hands the situation back
-// unchanged.
+// Refusals 1 plan, 2 situation not sound, 3 unknown code, 4 argument, then the event's own, with what it names. A refused event hands the
+// situation back unchanged.
 pub fn apply(plan: Plan, x: Situation, event: Event) -> Applied
     ensures { λ r. ⌜ outcome r ≡ applied plan (unpacked x) event ⌝ }
+    ensures { λ r. ⌜ r .name ≡ name plan (unpacked x) event (r .refusal) ⌝ }
 {
     let refusal = judged(plan, x);
     if refusal != 0 {
-        return Applied { refusal, next: x };
+        return refused(plan, x, event, refusal);
     }
     step(plan, x, event)
 }

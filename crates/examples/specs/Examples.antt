@@ -7,8 +7,9 @@ use lib.Dec.{T, eqb}
 use Rattle.words.specs.Words.{_and_}
 use Rattle.rulebook.specs.Situation.{Kept, fresh}
 use Rattle.block.specs.declared.line.Plan.{Plan}
-use Rattle.rulebook.specs.Table.{Sobb, Cobb, Afbli, Afble, Bilc, Bslg, ExitNormal, ExitSpecial, Occupied, LinkLost, LinkRestored}
+use Rattle.rulebook.specs.Table.{Sobb, Cobb, Afbli, Afble, Dafbl, Bilc, Bslg, ExitNormal, ExitSpecial, Occupied, LinkLost, LinkRestored}
 use Rattle.rulebook.specs.Apply.{event, applied}
+use Rattle.rulebook.specs.Names.{name}
 use Rattle.signals.specs.Readings.{value-read}
 use Rattle.numeric.specs.Exact.{exactAnswer, isNumber, exactValue}
 use Rattle.marking.specs.Sheet.{marked}
@@ -19,6 +20,7 @@ use lib.Ieee.{Float, binary32, round}
 use lib.IntN.{pos}
 
 infix 90 _at_gives_
+infix 90 _at_gives_naming_
 infix 80 signal_shows_
 infix 80 towards-B-show_
 infix 80 towards-A-show_
@@ -50,6 +52,9 @@ AFBLI = Afbli .code
 abbrev pub AFBLE : ℕ
 AFBLE = Afble .code
 
+abbrev pub DAFBL : ℕ
+DAFBL = Dafbl .code
+
 abbrev pub BILC : ℕ
 BILC = Bilc .code
 
@@ -74,6 +79,7 @@ link-restored = LinkRestored .code
 -- ---- what a row tells: events with the refusal each gets (0 accepted), then what is read; or a number typed
 pub data Tried : Type 0 where
   _at_gives_ : ℕ → ℕ → ℕ → Tried
+  _at_gives_naming_ : ℕ → ℕ → ℕ → ℕ → Tried
 
 pub data Seen : Type 0 where
   signal_shows_ : ℕ → ℕ → Seen
@@ -107,6 +113,8 @@ all-seen x (r ∷ rs) = is-seen x r and all-seen x rs
 abbrev pub go : Kept → List Tried → List Seen → Bool
 go x [] rs = all-seen x rs
 go x ((code at arg gives refusal) ∷ es) rs = eqb (applied plan x (event code arg) .refusal) refusal and go (applied plan x (event code arg) .next) es rs
+go x ((code at arg gives refusal naming n) ∷ es) rs =
+    eqb (applied plan x (event code arg) .refusal) refusal and eqb (name plan x (event code arg) refusal) n and go (applied plan x (event code arg) .next) es rs
 
 -- the float that is nearest to n / 2 ^ 18, and whether it is n / 2 ^ 18 exactly
 abbrev pub over-2^18 : ℕ → Float
@@ -136,9 +144,10 @@ table =
     -- 1. Exit route A: 12.
     ((exit-route at A gives 12 ∷ []) then [])
     -- 2. SOBB A, COBB B: aspects 1..4 are 0,2,2,1; towards A all 0. Then exit route A: signal 1 is 2; exit route B: 13.
+    -- "example 2 now ends in 15" (02, Req 01)
     ∷ ((SOBB at A gives 0 ∷ COBB at B gives 0 ∷ []) then (towards-B-show (0 ∷ 2 ∷ 2 ∷ 1 ∷ []) ∷ towards-A-show (0 ∷ 0 ∷ 0 ∷ 0 ∷ []) ∷ []))
     ∷ ((SOBB at A gives 0 ∷ COBB at B gives 0 ∷ exit-route at A gives 0 ∷ []) then (signal 1 shows 2 ∷ []))
-    ∷ ((SOBB at A gives 0 ∷ COBB at B gives 0 ∷ exit-route at A gives 0 ∷ exit-route at B gives 13 ∷ []) then [])
+    ∷ ((SOBB at A gives 0 ∷ COBB at B gives 0 ∷ exit-route at A gives 0 ∷ exit-route at B gives 15 ∷ []) then [])
     -- 3. After the first two orders of 2, link lost: 1..4 are 0,1,2,1.
     ∷ ((SOBB at A gives 0 ∷ COBB at B gives 0 ∷ link-lost at 0 gives 0 ∷ []) then (towards-B-show (0 ∷ 1 ∷ 2 ∷ 1 ∷ []) ∷ []))
     -- 4. AFBLE A, AFBLE B: signals 2 and 131 yellow, all others red.
@@ -162,4 +171,9 @@ table =
     ∷ (1500 metres-at 100 within 50 typed 14168884 /2^18-gets 0 error 50)
     -- 10. 1,000 m, 70 km/h, tolerance 0: no float is right.
     ∷ (1000 metres-at 70 within-0-no-float-is-right)
+    -- what 13, 15 and 9 name (02, Req 01), beside the marked ones
+    ∷ ((SOBB at A gives 0 ∷ COBB at B gives 0 ∷ occupied at 3 gives 0 ∷ occupied at 2 gives 0 ∷ exit-route at B gives 13 naming 2 ∷ []) then [])
+    ∷ ((SOBB at A gives 0 ∷ COBB at B gives 0 ∷ exit-route at A gives 0 ∷ exit-route at B gives 15 naming 0 ∷ occupied at 1 gives 0 ∷ special-exit at B gives 13 naming 1 ∷ []) then [])
+    ∷ ((SOBB at B gives 0 ∷ COBB at A gives 0 ∷ exit-route at B gives 0 ∷ SOBB at A gives 9 naming B ∷ AFBLI at B gives 9 naming B ∷ []) then [])
+    ∷ ((AFBLE at A gives 0 ∷ special-exit at A gives 0 ∷ DAFBL at A gives 0 ∷ AFBLE at B gives 0 ∷ special-exit at B gives 0 ∷ DAFBL at B gives 0 ∷ SOBB at B gives 9 naming A ∷ AFBLE at B gives 9 naming B ∷ BILC at A gives 9 naming A ∷ []) then [])
     ∷ []

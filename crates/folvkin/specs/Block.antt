@@ -13,6 +13,7 @@ use Rattle.block.specs.declared.line.Plan.{Plan}
 use Rattle.block.specs.declared.event.Event.{Event}
 use Rattle.rulebook.specs.Situation.{Kept}
 use Rattle.rulebook.specs.Apply.{event, own-refusal, reached}
+use Rattle.rulebook.specs.Names.{name}
 use Rattle.signals.specs.Aspects.{aspect}
 use Rattle.signals.specs.Readings.{reading, nothing-told}
 use Rattle.signals.specs.declared.readings.Told.{Told}
@@ -45,12 +46,9 @@ event-in bytes = event (getD bytes 0 0) (getD bytes 1 0)
 abbrev pub longest-situation : ℕ
 longest-situation = 96
 
--- what has to be right before the event's own refusals
-abbrev pub before-event : Plan → Kept → Event → ℕ → ℕ
-before-event p x e room = judged p x or-else event-refusal p e or-else 24 unless leb longest-situation room
-
+-- 1, 2, 3, 4, 24, then the event's own
 abbrev pub tried-refusal : Plan → Kept → Event → ℕ → ℕ
-tried-refusal p x e room = before-event p x e room or-else own-refusal p x e
+tried-refusal p x e room = judged p x or-else event-refusal p e or-else 24 unless leb longest-situation room or-else own-refusal p x e
 
 abbrev pub event-told : Whole Given → List ℕ → List ℕ → ℕ
 event-told no-form e room = 20
@@ -64,15 +62,20 @@ abbrev pub records-after : Whole Given → List ℕ → List ℕ
 records-after no-form e = []
 records-after (accepted g) e = record-after (g .plan) (g .situation) (event-in e)
 
--- `refusal + 2^8 name + 2^16 length`: there is no name yet
-abbrev pub told-with : ℕ → List ℕ → ℕ
-told-with refusal after = refusal + 65536 * (if eqb refusal 0 then length after else 0)
+-- what the refusal names
+abbrev pub name-of : Whole Given → List ℕ → ℕ → ℕ
+name-of no-form e refusal = 0
+name-of (accepted g) e refusal = name (g .plan) (g .situation) (event-in e) refusal
+
+-- `refusal + 2^8 name + 2^16 length`
+abbrev pub told-with : ℕ → ℕ → List ℕ → ℕ
+told-with refusal name after = refusal + 256 * name + 65536 * (if eqb refusal 0 then length after else 0)
 
 abbrev pub room-with : ℕ → List ℕ → List ℕ → List ℕ
 room-with refusal after room = if eqb refusal 0 then laid after room else room
 
 abbrev pub event-packed : Whole Given → List ℕ → List ℕ → ℕ
-event-packed g e room = told-with (event-told g e room) (records-after g e)
+event-packed g e room = told-with (event-told g e room) (name-of g e (event-told g e room)) (records-after g e)
 
 abbrev pub event-room : Whole Given → List ℕ → List ℕ → List ℕ
 event-room g e room = room-with (event-told g e room) (records-after g e) room

@@ -10,9 +10,9 @@ use Rattle.keys.specs.declared.Ran.{Ran}
 abbrev pub packed-part : Fetch → ℕ
 packed-part f = f .refusal + 256 * flag (f .part .more) + 65536 * f .part .count
 
--- `refusal + 2^8 place + 2^16 event's refusal + 2^24 holds + 2^32 name`: there is no name yet
+-- `refusal + 2^8 place + 2^16 event's refusal + 2^24 holds + 2^32 name`
 abbrev pub packed-run : Ran → ℕ
-packed-run r = r .refusal + 256 * r .place + 65536 * r .«event_refusal» + 16777216 * flag (r .holds)
+packed-run r = r .refusal + 256 * r .place + 65536 * r .«event_refusal» + 16777216 * flag (r .holds) + 4294967296 * r .name
 
 abbrev pub question-refusal : List ℕ → ℕ
 question-refusal bytes = readOf bytes .refusal

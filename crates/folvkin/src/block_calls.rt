@@ -5,10 +5,11 @@ ghost use Prim.Native.Nat.{_+_, _≤_};
 ghost use mathlib.Core.List.{_++_};
 ghost use lib.ListN.{length, drop};
 ghost use Rattle.block.specs.Line.{isPlan};
+ghost use Rattle.rulebook.specs.Names.{name};
 ghost use Rattle.situation.specs.Packed.{unpacked};
 ghost use Rattle.paper.specs.Given.{given};
 ghost use Rattle.folvkin.specs.ShownInTurn.{first-shown};
-ghost use Rattle.folvkin.specs.Block.{before-event, tried-refusal, record-after, told-with, room-with, plan-refusal, situation-refusal, event-packed, event-room, reading-told, packed, first-aspects, aspects-told, aspects-room};
+ghost use Rattle.folvkin.specs.Block.{tried-refusal, record-after, told-with, room-with, plan-refusal, situation-refusal, event-packed, event-room, reading-told, packed, first-aspects, aspects-told, aspects-room};
 use block::event::Event;
 use block::line::Direction;
 use block::line::Plan;
@@ -16,6 +17,7 @@ use block::line::plan_judged;
 use block::refused::ACCEPTED;
 use block::refused::NO_FORM;
 use block::refused::SHORT_ROOM;
+use events::name_of;
 use events::next;
 use events::own_refusal;
 use lists::event_refusal;
@@ -60,9 +62,9 @@ pub extern "C" fn folvkin_situation(plan: &[u8], situation: &[u8]) -> u8
     judged(plan_in(plan), situation_in(situation))
 }
 
-// What has to be right before the event's own refusals: 1, 2, 3, 4, 24.
-fn before_event(plan: Plan, x: Situation, event: Event, room: usize) -> u8
-    ensures { λ r. ⌜ r ≡ before-event plan (unpacked x) event room ⌝ }
+// Refusals 1, 2, 3, 4, 24, then the event's own.
+fn tried_refusal(plan: Plan, x: Situation, event: Event, room: usize) -> u8
+    ensures { λ r. ⌜ r ≡ tried-refusal plan (unpacked x) event room ⌝ }
 {
     let refusal = judged(plan, x);
     if refusal != ACCEPTED {
@@ -75,28 +77,25 @@ fn before_event(plan: Plan, x: Situation, event: Event, room: usize) -> u8
     if room < LONGEST_SITUATION {
         return SHORT_ROOM;
     }
-    ACCEPTED
+    own_refusal(plan, x, event)
 }
 
 // The event, and the situation after it as records.
 fn event_written(plan: Plan, x: Situation, event: Event, room: &mut [u8]) -> u64
-    ensures { λ r. ⌜ r ≡ told-with (tried-refusal plan (unpacked x) event (length (now (room .entry)))) (record-after plan (unpacked x) event) ⌝ }
+    ensures { λ r. ⌜ r ≡ told-with (tried-refusal plan (unpacked x) event (length (now (room .entry)))) (name plan (unpacked x) event (tried-refusal plan (unpacked x) event (length (now (room .entry))))) (record-after plan (unpacked x) event) ⌝ }
     ensures { λ _. ⌜ now (room .exit) ≡ room-with (tried-refusal plan (unpacked x) event (length (now (room .entry)))) (record-after plan (unpacked x) event) (now (room .entry)) ⌝ }
 {
-    let refusal = before_event(plan, x, event, room.len());
+    let refusal = tried_refusal(plan, x, event, room.len());
     if refusal != ACCEPTED {
-        return refusal as u64;
-    }
-    let refusal = own_refusal(plan, x, event);
-    if refusal != ACCEPTED {
-        return refusal as u64;
+        let name = name_of(plan, x, event, refusal);
+        return refusal as u64 + 256 * (name as u64);
     }
     let si = record_of(next(plan, x, event));
     let length = bytes::copy(&si, room);
     65536 * (length as u64)
 }
 
-// Refusal + 2^8 name + 2^16 length. An accepted event writes the situation after it, as records; later bytes keep their values, and a refused one
+// Refusal + 2^8 name + 2^16 length; 13 names the lowest occupied section, 9 the station that holds the exit route (0 A, 1 B). An accepted event writes the situation after it, as records; later bytes keep their values, and a refused one
 // changes no byte.
 #[no_mangle]
 pub extern "C" fn folvkin_event(plan: &[u8], situation: &[u8], event: &[u8], room: &mut [u8]) -> u64

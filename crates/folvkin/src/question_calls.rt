@@ -37,4 +37,5 @@ pub extern "C" fn folvkin_run(bytes: &[u8], slot: &[u8]) -> u64
         + 256 * (ran.place as u64)
         + 65536 * (ran.event_refusal as u64)
         + 16777216 * (holds as u64)
+        + 4294967296 * (ran.name as u64)
 }

@@ -1,6 +1,6 @@
 -- The key of a question, over the real rules: every right sequence, once, in the stated order, with nothing else; fetched in parts, the parts joined are the same key; a candidate's slot is in it exactly if its run ends with all readings holding. The laws of keys over any rules, with the rules of the question.
 use Prim.Native.Nat.{ℕ, _≤_, _<_}
-use mathlib.Core.Path.{_≡_, refl, ap}
+use mathlib.Core.Path.{_≡_, refl, ap, ap₂}
 use mathlib.Core.Logic.{_↔_}
 use mathlib.Core.Bool.{Bool, true, false}
 use mathlib.Core.List.{List, [], _∷_, _++_, map}
@@ -11,7 +11,7 @@ use Rattle.words.specs.Words.{if_then_else_}
 use Rattle.keylaws.specs.Rules.{Word}
 use Rattle.keylaws.specs.Key.{Answer, _among_}
 use Rattle.keylaws.specs.Order.{before}
-use Rattle.keylaws.specs.Run.{ended, run}
+use Rattle.keylaws.specs.Run.{Outcome, ended, run}
 use Rattle.keylaws.specs.Slots.{slotOf, wordOf, slots, isSlot}
 use Rattle.keylaws.specs.Continuation.{fromStart, isContinuation, comesAfter, answersAfter}
 use Rattle.keylaws.specs.Parts.{partAfter, lastSlot, calls, joined, total, remain, Rooms}
@@ -22,6 +22,8 @@ use Rattle.keylaws.proofs.PartsJoined as parts
 use Rattle.keylaws.proofs.CandidateInKey as candidate
 use Rattle.keylaws.proofs.SlotsOfWords.{is-slot}
 use Rattle.keylaws.proofs.Among.{of-map}
+use Rattle.rules.specs.RulesOf.{name-told}
+use Rattle.rules.proofs.RunNames.{unstopped}
 use Rattle.paper.specs.Question.{Question}
 use Rattle.keys.specs.Key.{Bounded, rules, key-of}
 use Rattle.keys.specs.Calls.{given, part-of, told, not-run, slot-run}
@@ -63,7 +65,7 @@ module _ (q : Question) where
     last-slot-continues = parts.last-slot-continues (rules q) (q .length) (q .situation) (b .2)
 
     -- a candidate's slot that is in the key is run to the end with its readings holding, and conversely; of any bytes
-    pub candidate-in-key : (x : List ℕ) → (x among map slotOf (key-of q)) ↔ (slot-run q x ≡ told (ended true))
+    pub candidate-in-key : (x : List ℕ) → (x among map slotOf (key-of q)) ↔ (slot-run q x ≡ told (ended true) 0)
     unfolding slot-run
     candidate-in-key x = (there, back (isSlot (rules q .events) (q .length) x) refl)
       where
@@ -73,9 +75,14 @@ module _ (q : Question) where
             let a = exactly-the-answers (r .0) .0 (r .2) in
             rw (r .1) (is-slot (rules q .events) (q .length) (b .2) (r .0) (a .short) (a .permitted))
 
-        there : x among map slotOf (key-of q) → (if isSlot (rules q .events) (q .length) x then told (run (rules q) (q .situation) (wordOf x)) else not-run 22) ≡ told (ended true)
-        there m = rw (in-slots m) (ap told (candidate.candidate-in-key (rules q) (q .length) (q .situation) (b .2) x (in-slots m) .0 m))
+        run-told : Ran
+        run-told = told (run (rules q) (q .situation) (wordOf x)) (name-told (q .plan) (q .events) (q .situation) (wordOf x))
 
-        back : (t : Bool) → isSlot (rules q .events) (q .length) x ≡ t → (if t then told (run (rules q) (q .situation) (wordOf x)) else not-run 22) ≡ told (ended true) → x among map slotOf (key-of q)
+        there : x among map slotOf (key-of q) → (if isSlot (rules q .events) (q .length) x then run-told else not-run 22) ≡ told (ended true) 0
+        there m =
+            let ran = candidate.candidate-in-key (rules q) (q .length) (q .situation) (b .2) x (in-slots m) .0 m in
+            rw (in-slots m) (ap₂ told ran (unstopped (q .plan) (q .events) (q .readings) (wordOf x) (q .situation) 1 (ap (λ (o : Outcome). o .refusal) ran)))
+
+        back : (t : Bool) → isSlot (rules q .events) (q .length) x ≡ t → (if t then run-told else not-run 22) ≡ told (ended true) 0 → x among map slotOf (key-of q)
         back true h e = candidate.candidate-in-key (rules q) (q .length) (q .situation) (b .2) x h .1 (ap (λ (r : Ran). record { place = r .place; refusal = r .«event_refusal»; holds = r .holds }) e)
         back false h e = let z : _≡_ {A = ℕ} 22 0 = ap (λ (r : Ran). r .refusal) e in absurd (omega arith)

@@ -9,6 +9,7 @@ use Rattle.keylaws.specs.Slots.{wordOf, isSlot}
 use Rattle.keylaws.specs.Continuation.{isContinuation}
 use Rattle.keylaws.specs.Parts.{Part, handed, partAfter}
 use Rattle.keylaws.specs.Run.{Outcome, run}
+use Rattle.rules.specs.RulesOf.{name-told}
 use Rattle.paper.specs.Question.{Question}
 use Rattle.paper.specs.Read.{Read}
 use Rattle.keys.specs.Key.{rules}
@@ -46,16 +47,18 @@ fetched read after room = if eqb (read .refusal) 0 then part-of (read .question)
 
 -- ---- a candidate's slot
 abbrev pub not-run : ℕ → Ran
-not-run refusal = record { refusal = refusal; place = 0; «event_refusal» = 0; holds = false }
+not-run refusal = record { refusal = refusal; place = 0; «event_refusal» = 0; name = 0; holds = false }
 
--- "Both are results": stopped at an event, or at the end
-abbrev pub told : Outcome → Ran
-told o = record { refusal = 0; place = o .place; «event_refusal» = o .refusal; holds = o .holds }
+-- "Both are results": stopped at an event, with what its refusal names, or at the end
+abbrev pub told : Outcome → ℕ → Ran
+told o name = record { refusal = 0; place = o .place; «event_refusal» = o .refusal; name = name; holds = o .holds }
 
 -- 22 candidate's slot malformed; 255 and five zeros is a continuation only
 unfoldable pub slot-run : Question → List ℕ → Ran
 slot-run q slot =
-    if isSlot (rules q .events) (q .length) slot then told (run (rules q) (q .situation) (wordOf slot)) else not-run 22
+    if isSlot (rules q .events) (q .length) slot
+    then told (run (rules q) (q .situation) (wordOf slot)) (name-told (q .plan) (q .events) (q .situation) (wordOf slot))
+    else not-run 22
 
 abbrev pub ran : Read → List ℕ → Ran
 ran read slot = if eqb (read .refusal) 0 then slot-run (read .question) slot else not-run (read .refusal)

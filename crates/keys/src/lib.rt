@@ -6,6 +6,7 @@ ghost use Rattle.keylaws.specs.Slots.{wordOf, isSlot};
 ghost use Rattle.keylaws.specs.Continuation.{isContinuation};
 ghost use Rattle.keylaws.specs.Parts.{handed, partAfter};
 ghost use Rattle.keylaws.specs.Run.{run};
+ghost use Rattle.rules.specs.RulesOf.{name-told};
 ghost use Rattle.rules.specs.Told.{outcome};
 ghost use Rattle.paper.specs.Read.{readOf};
 ghost use Rattle.paper.specs.Found.{Lies};
@@ -32,12 +33,13 @@ pub struct Fetched {
     pub count: u64,
 }
 
-// The refusal of the question or of the slot; else the place within the slot and the refusal of the first refused event, or zeros and whether all
-// readings hold.
+// The refusal of the question or of the slot; else the place within the slot and the refusal of the first refused event, with what that names, or
+// zeros and whether all readings hold.
 pub struct Ran {
     pub refusal: u8,
     pub place: u8,
     pub event_refusal: u8,
+    pub name: u8,
     pub holds: bool,
 }
 
@@ -117,6 +119,7 @@ fn run_slot(q: Found, bytes: &[u8], slot: &[u8]) -> Told
     requires { ⌜ Lies q (now bytes) × (q .refusal ≡ 0) ⌝ }
     requires { ⌜ isSlot (q .count) (q .length) (now slot) ≡ true ⌝ }
     ensures { λ r. ⌜ outcome r ≡ run (rules (question-in (now (bytes .entry)))) (question-in (now (bytes .entry)) .situation) (wordOf (now (slot .entry))) ⌝ }
+    ensures { λ r. ⌜ r .name ≡ name-told (question-in (now (bytes .entry)) .plan) (question-in (now (bytes .entry)) .events) (question-in (now (bytes .entry)) .situation) (wordOf (now (slot .entry))) ⌝ }
 {
     let events = q.events;
     let events_end = q.events_end;
@@ -139,6 +142,7 @@ fn not_run(refusal: u8) -> Ran
         refusal,
         place: 0,
         event_refusal: 0,
+        name: 0,
         holds: false,
     }
 }
@@ -156,6 +160,7 @@ fn run_in(q: Found, bytes: &[u8], slot: &[u8]) -> Ran
         refusal: ACCEPTED,
         place: told.place,
         event_refusal: told.refusal,
+        name: told.name,
         holds: told.holds,
     }
 }

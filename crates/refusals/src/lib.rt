@@ -1,8 +1,10 @@
 // What refuses each event, own being the station that the event names: "Checks run in the order written; the first that fails
 // gives the refusal."
 ghost use mathlib.Core.Path.{_≡_};
-ghost use Rattle.words.specs.Words.{if_then_else_};
+ghost use mathlib.Core.Bool.{not};
+ghost use Rattle.words.specs.Words.{_and_, if_then_else_};
 ghost use Rattle.refusals.specs.InOrder.{check};
+ghost use Rattle.rulebook.specs.Situation.{_is-in, _has-exit-route, track-clear};
 ghost use Rattle.rulebook.specs.Table.{Sobb, Cobb, Afbli, Afble, Dafbl, Bilc, Dilc, Bslg, BslgOff, Bslb, BslbOff, Reminder, ReminderOff, ExitNormal, ExitSpecial, ExitReleased, Entry, EntryReleased, Occupied, Freed, LinkLost, LinkRestored};
 ghost use Rattle.rulebook.specs.Apply.{refuses};
 ghost use Rattle.situation.specs.Packed.{unpacked};
@@ -13,8 +15,9 @@ use block::refused::BILC;
 use block::refused::ENTRY_ROUTE;
 use block::refused::EXIT_ROUTE;
 use block::refused::LINK_DOWN;
-use block::refused::NOT_FREE;
+use block::refused::OCCUPIED;
 use block::refused::ORIENTED;
+use block::refused::OTHER_ROUTE;
 use block::refused::PENDING;
 use block::refused::REMINDER;
 use sections::has;
@@ -145,19 +148,31 @@ pub fn reminder_off_refusal(x: Situation, at: Spot) -> u8
     refuse(ALREADY, !own.has_reminder(), 0)
 }
 
+// Own is in and the line not free: 13 for an occupied section, then 15 for an exit route at the other station.
+fn check_line(r: u8, x: Situation) -> u8
+    ensures { λ s. ⌜ s ≡ check (check r 13 (unpacked x .traffic .own is-in and not (track-clear (unpacked x .traffic .track)))) 15 (unpacked x .traffic .own is-in and unpacked x .traffic .other has-exit-route) ⌝ }
+{
+    let own = x.own();
+    let other = x.other();
+    let inward = own.is_in();
+    let occupied = inward & !x.track_clear();
+    let routed = inward & other.routed();
+    let r = check(r, OCCUPIED, occupied);
+    check(r, OTHER_ROUTE, routed)
+}
+
 pub fn exit_normal_refusal(x: Situation, at: Spot) -> u8
     ensures { λ r. ⌜ r ≡ refuses ExitNormal at (unpacked x) ⌝ }
 {
     let own = x.own();
     let none = !(own.is_out() | own.is_in());
-    let waits = own.is_in() & !x.line_free();
     let r = check(0, ALREADY, own.routed());
     let r = check(r, BILC, own.has_bilc());
     let r = check(r, ANNULLED, own.annulled());
     let r = check(r, REMINDER, own.has_reminder());
     let r = check(r, LINK_DOWN, !x.linked());
     let r = check(r, ORIENTED, none);
-    check(r, NOT_FREE, waits)
+    check_line(r, x)
 }
 
 pub fn exit_special_refusal(x: Situation, at: Spot) -> u8
@@ -165,7 +180,6 @@ pub fn exit_special_refusal(x: Situation, at: Spot) -> u8
 {
     let own = x.own();
     let none = !(own.is_out() | own.is_in());
-    let waits = own.is_in() & !x.line_free();
     let r = check(0, ALREADY, own.routed());
     let r = check(r, BILC, own.has_bilc());
     if own.under_afble() {
@@ -174,7 +188,7 @@ pub fn exit_special_refusal(x: Situation, at: Spot) -> u8
     let r = check(r, ANNULLED, own.annulled());
     let r = check(r, LINK_DOWN, !x.linked());
     let r = check(r, ORIENTED, none);
-    check(r, NOT_FREE, waits)
+    check_line(r, x)
 }
 
 pub fn exit_released_refusal(x: Situation, at: Spot) -> u8

@@ -17,3 +17,6 @@ pub mod PendingRule
 pub mod FreshSound
 pub mod OneDirection
 pub mod StepsAgree
+pub mod AsIn01
+pub mod LowestSection
+pub mod NamesRight

@@ -40,6 +40,9 @@ module _ (at : Place) (x : Situation) where
   abbrev line-free : Bool
   line-free = situation.free-with (at .track-clear) x
 
+  abbrev any-section-occupied : Bool
+  any-section-occupied = not (at .track-clear)
+
   abbrev k : ℕ
   k = at .section
 
@@ -124,6 +127,8 @@ module _ (at : Place) (x : Situation) where
   exit r = reoriented-where (own is-in and not (own under-AFBLE)) out inward (withOwn (own with-exit r) x)
 
   -- | 14 | exit route, normal | 5 one is set; 11 BILC; 8 annulled; 14 reminder; 6; 12 own none; 13 own is in and line not free |
+  -- 02, Req 01, tells its last check apart: "13 stays for an occupied section ..; 15 is for a free track with an exit route at the other station.
+  -- When both hold, 13 is given."
   abbrev pub exit-normal : Row
   exit-normal =
       5 when own has-exit-route
@@ -132,7 +137,8 @@ module _ (at : Place) (x : Situation) where
       ┃ 14 when own .reminder
       ┃ 6 when link-down
       ┃ 12 when own is-none
-      ┃ 13 when own is-in and not line-free
+      ┃ 13 when own is-in and any-section-occupied
+      ┃ 15 when own is-in and other has-exit-route
       ┃ ⟶ exit normal
 
   -- | 15 | exit route, special | as 14 without 14; with AFBLE only 5 and 11 are checked |
@@ -144,7 +150,8 @@ module _ (at : Place) (x : Situation) where
       ┃ 8 when own annulled
       ┃ 6 when link-down
       ┃ 12 when own is-none
-      ┃ 13 when own is-in and not line-free
+      ┃ 13 when own is-in and any-section-occupied
+      ┃ 15 when own is-in and other has-exit-route
       ┃ ⟶ exit special
 
   -- | 16 | exit route released | 5 | route 0 |

@@ -1,16 +1,20 @@
 -- What is proved of every event of the block: each law as a statement, proved under the same name in proofs/.
-use Prim.Native.Nat.{ℕ}
+use Prim.Native.Nat.{ℕ, _<_}
 use mathlib.Core.Bool.{Bool, true, false, not, Bool·beq}
 use mathlib.Core.List.{List, [], _∷_}
 use mathlib.Core.Path.{_≡_}
 use lib.Dec.{T, eqb}
 use Rattle.words.specs.Words.{_and_, _or_, if_then_else_}
 use Rattle.sections.specs.Sections.{_belongs-to_}
-use Rattle.block.specs.Line.{isPlan}
-use Rattle.rulebook.specs.Situation.{Station, Situation, Kept, areaDirection, fresh, nobody, seen-from, held, withStations, _is-out, _is-in, _annulled, _under-AFBLI, _under-AFBLE, _has-exit-route}
+use Rattle.block.specs.Line.{isPlan, is-section, opposite}
+use Rattle.rulebook.specs.Situation.{Station, Situation, Kept, areaDirection, fresh, nobody, seen-from, station, held, track-clear, line-free, withStations, normal, special, _is-out, _is-in, _is-none, _annulled, _under-AFBLI, _under-AFBLE, _has-exit-route}
 use Rattle.rulebook.specs.Sound.{stationSound, sound}
-use Rattle.rulebook.specs.Table.{Kind, Sobb, Cobb, Afbli, Afble, Dafbl, Bilc, Dilc, Bslg, BslgOff, Bslb, BslbOff, Reminder, ReminderOff, ExitNormal, ExitSpecial, ExitReleased, Entry, EntryReleased, Occupied, Freed, LinkLost, LinkRestored, kind-of}
-use Rattle.rulebook.specs.Apply.{refuses, leads, event, known, argument-right, spot, own-refusal, stepped, applied, Outcome}
+use Rattle.rulebook.specs.Checks.{Row, ⟶_, _┃_, _when_, enough-when_}
+use Rattle.rulebook.specs.Place.{Place}
+use Rattle.rulebook.specs.Events.{exit}
+use Rattle.rulebook.specs.Table.{Kind, kind, keeps, Sobb, Cobb, Afbli, Afble, Dafbl, Bilc, Dilc, Bslg, BslgOff, Bslb, BslbOff, Reminder, ReminderOff, ExitNormal, ExitSpecial, ExitReleased, Entry, EntryReleased, Occupied, Freed, LinkLost, LinkRestored, kind-of}
+use Rattle.rulebook.specs.Apply.{refuses, leads, refusal-at, led-at, event, known, argument-right, spot, own-refusal, accepted, refused, stepped, applied, Outcome}
+use Rattle.rulebook.specs.Names.{station-argument, name}
 use Rattle.block.specs.declared.line.Plan.{Plan}
 use Rattle.block.specs.declared.line.Name.{Name}
 use Rattle.block.specs.declared.line.Name.the-variants.{StationA, StationB}
@@ -164,3 +168,93 @@ OthersNeverMatter =
     (at : Spot) (x : Situation) (other : Station) →
     let y = withStations (x .traffic .own) other x in
     (refuses Afbli at y ≡ refuses Afbli at x) × (refuses Afble at y ≡ refuses Afble at x)
+
+-- ---- (02, Req 01) 13 and 15 tell apart what document 01 has as one check: its rows 14 and 15
+module _ (at : Place) (x : Situation) where
+  abbrev own : Station
+  own = x .traffic .own
+
+  -- | 14 | exit route, normal | 5 one is set; 11 BILC; 8 annulled; 14 reminder; 6; 12 own none; 13 own is in and line not free |
+  abbrev pub exit-normal-in-01 : Row
+  exit-normal-in-01 =
+      5 when own has-exit-route
+      ┃ 11 when own .bilc
+      ┃ 8 when own annulled
+      ┃ 14 when own .reminder
+      ┃ 6 when not (x .traffic .link)
+      ┃ 12 when own is-none
+      ┃ 13 when own is-in and not (line-free x)
+      ┃ ⟶ exit at x normal
+
+  -- | 15 | exit route, special | as 14 without 14; with AFBLE only 5 and 11 are checked |
+  abbrev pub exit-special-in-01 : Row
+  exit-special-in-01 =
+      5 when own has-exit-route
+      ┃ 11 when own .bilc
+      ┃ enough-when own under-AFBLE
+      ┃ 8 when own annulled
+      ┃ 6 when not (x .traffic .link)
+      ┃ 12 when own is-none
+      ┃ 13 when own is-in and not (line-free x)
+      ┃ ⟶ exit at x special
+
+-- the table with these two rows
+abbrev pub kind-in-01 : Kind → Kind
+kind-in-01 k =
+    if eqb (k .code) (ExitNormal .code) then kind (ExitNormal .code) (ExitNormal .argument) keeps exit-normal-in-01 else
+    if eqb (k .code) (ExitSpecial .code) then kind (ExitSpecial .code) (ExitSpecial .argument) keeps exit-special-in-01 else
+    k
+
+-- a step by it
+module _ (p : Plan) (x : Kept) (e : Event) where
+  abbrev pub refusal-in-01 : ℕ
+  refusal-in-01 = refusal-at (kind-in-01 (kind-of (e .code))) (spot p e) x
+
+  unfoldable pub stepped-in-01 : Outcome
+  stepped-in-01 =
+      if not (known e) then refused 3 x else
+      if not (argument-right p e) then refused 4 x else
+      if eqb refusal-in-01 0 then accepted (led-at (kind-in-01 (kind-of (e .code))) (spot p e) x) else
+      refused refusal-in-01 x
+
+-- the refusal's number in document 01: 13 where it is 15 now
+abbrev pub number-in-01 : ℕ → ℕ
+number-in-01 r = if eqb r 15 then 13 else r
+
+-- every event is accepted where it was, leads where it led, and is refused with the number that it had, but that 15 was 13
+abbrev pub RefusedAsIn01 : Type 0
+RefusedAsIn01 = (p : Plan) (x : Kept) (e : Event) → stepped-in-01 p x e ≡ record { refusal = number-in-01 (stepped p x e .refusal); next = stepped p x e .next }
+
+-- ---- (02, Req 01) what refusals name
+-- "13 stays for an occupied section and now names the lowest occupied one"
+pub record LowestOccupied (p : Plan) (x : Kept) (k : ℕ) : Type 0 where
+  pub on-the-line : T (is-section p k)
+  pub is-occupied : (k belongs-to x .traffic .track .occupied) ≡ true
+  pub none-below : (j : ℕ) → j < k → (j belongs-to x .traffic .track .occupied) ≡ false
+
+abbrev pub ThirteenNames : Type 0
+ThirteenNames = (p : Plan) (x : Kept) (e : Event) → applied p x e .refusal ≡ 13 → LowestOccupied p x (name p x e 13)
+
+-- "15 is for a free track with an exit route at the other station", own being in
+pub record OtherRoute (x : Kept) (own : Name) : Type 0 where
+  pub own-is-in : (station x own is-in) ≡ true
+  pub track-free : track-clear (x .traffic .track) ≡ true
+  pub other-has-route : (station x (opposite own) has-exit-route) ≡ true
+
+abbrev pub FifteenMeans : Type 0
+FifteenMeans = (p : Plan) (x : Kept) (e : Event) → applied p x e .refusal ≡ 15 → OtherRoute x (spot p e .own)
+
+-- "Refusal 9 names the station that holds the route, own where own is checked, else A first if both do."
+pub record RouteHolder (x : Kept) (e : Event) (n : ℕ) : Type 0 where
+  pub holder : Name
+  pub is-named : n ≡ station-argument holder
+  pub has-route : (station x holder has-exit-route) ≡ true
+  pub own-where-checked : T (eqb (e .code) (Afbli .code) or eqb (e .code) (Afble .code) or eqb (e .code) (Bilc .code)) → n ≡ e .argument
+  pub else-A-first : T (eqb (e .code) (Sobb .code) or eqb (e .code) (Cobb .code)) → (station x StationA has-exit-route) ≡ true → n ≡ 0
+
+abbrev pub NineNames : Type 0
+NineNames = (p : Plan) (x : Kept) (e : Event) → applied p x e .refusal ≡ 9 → RouteHolder x e (name p x e 9)
+
+-- every other number names nothing
+abbrev pub OthersNameNothing : Type 0
+OthersNameNothing = (p : Plan) (x : Kept) (e : Event) (r : ℕ) → (r ≡ 13 → ⊥) → (r ≡ 9 → ⊥) → name p x e r ≡ 0

@@ -7,4 +7,5 @@ pub mod Place
 pub mod Events
 pub mod Table
 pub mod Apply
+pub mod Names
 pub mod Laws

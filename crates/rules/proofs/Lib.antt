@@ -2,3 +2,4 @@ pub mod RunSteps
 pub mod EachEvent
 pub mod ReadingSteps
 pub mod ReadingsTogether
+pub mod RunNames

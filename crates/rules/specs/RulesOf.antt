@@ -3,13 +3,15 @@ use Prim.Native.Nat.{ℕ}
 use mathlib.Core.Bool.{Bool, true}
 use mathlib.Core.List.{List, [], _∷_}
 use lib.ListN.{length}
-use Rattle.words.specs.Words.{_and_}
-use Rattle.keylaws.specs.Rules.{Rules}
+use lib.Dec.{eqb}
+use Rattle.words.specs.Words.{_and_, if_then_else_}
+use Rattle.keylaws.specs.Rules.{Rules, Word}
 use Rattle.block.specs.declared.line.Plan.{Plan}
 use Rattle.block.specs.declared.event.Event.{Event}
 use Rattle.block.specs.declared.reading.Reading.{Reading}
 use Rattle.rulebook.specs.Situation.{Kept}
 use Rattle.rulebook.specs.Apply.{stepped, Outcome}
+use Rattle.rulebook.specs.Names.{name}
 use Rattle.signals.specs.Readings.{reading-holds}
 use Rattle.records.specs.Lists.{event-at}
 
@@ -31,3 +33,10 @@ rulesOf p events readings =
       next = λ x place. tried p events x place .next;
       holds = all-hold p readings;
     }
+
+-- (02, Req 01) what is named by the refusal at which a run stops; 0 where no event is refused
+unfoldable pub name-told : Plan → List Event → Kept → Word → ℕ
+name-told p events x [] = 0
+name-told p events x (place ∷ w) =
+    if eqb (tried p events x place .refusal) 0 then name-told p events (tried p events x place .next) w else
+    name p x (event-at events place) (tried p events x place .refusal)

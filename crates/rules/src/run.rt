@@ -5,7 +5,7 @@ ghost use lib.ListN.{length};
 ghost use Rattle.keylaws.specs.Key.{Permitted};
 ghost use Rattle.keylaws.specs.Run.{run};
 ghost use Rattle.records.specs.InBytes.{events-in, readings-in};
-ghost use Rattle.rules.specs.RulesOf.{rulesOf};
+ghost use Rattle.rules.specs.RulesOf.{rulesOf, name-told};
 ghost use mathlib.Core.Bool.{true};
 ghost use Rattle.situation.specs.Packed.{unpacked};
 ghost use Rattle.block.specs.Line.{isPlan};
@@ -14,15 +14,17 @@ ghost use Rattle.rules.specs.Told.{outcome};
 use super::wanted::all_hold;
 use super::wanted::wanted_of;
 use block::line::Plan;
+use events::name_of;
 use events::next;
 use events::own_refusal;
 use records::lists::event_at;
 use situation::Situation;
 
-// The place of the first refused event within the slot, from 1, and its refusal, or 0, 0 and whether all readings hold.
+// The place of the first refused event within the slot, from 1, its refusal and what that names, or zeros and whether all readings hold.
 pub struct Told {
     pub place: u8,
     pub refusal: u8,
+    pub name: u8,
     pub holds: bool,
 }
 
@@ -37,6 +39,7 @@ pub fn run_places(
     requires { ⌜ (length (now places) ≤ 5) × Permitted (length (events-in (now events))) (now places) ⌝ }
     requires { ⌜ (all-right plan (events-in (now events)) ≡ true) × (isPlan plan ≡ true) ⌝ }
     ensures { λ r. ⌜ outcome r ≡ run (rulesOf plan (events-in (now (events .entry))) (readings-in (now (readings .entry)))) (unpacked start) (now (places .entry)) ⌝ }
+    ensures { λ r. ⌜ r .name ≡ name-told plan (events-in (now (events .entry))) (unpacked start) (now (places .entry)) ⌝ }
 {
     let mut x = start;
     let mut i = 0;
@@ -45,6 +48,7 @@ pub fn run_places(
             break Told {
                 place: 0,
                 refusal: 0,
+                name: 0,
                 holds: all_hold(plan, wanted_of(readings), x, readings),
             };
         }
@@ -55,6 +59,7 @@ pub fn run_places(
             break Told {
                 place: (i + 1) as u8,
                 refusal,
+                name: name_of(plan, x, event, refusal),
                 holds: false,
             };
         }

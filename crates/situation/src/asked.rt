@@ -56,7 +56,7 @@ impl Situation {
         has_flag(self.flags, OTHER_ASKS)
     }
 
-    fn track_clear(self) -> bool
+    pub fn track_clear(self) -> bool
         ensures { λ r. ⌜ r ≡ track-clear (unpacked self .traffic .track) ⌝ }
     {
         self.occupied == 0

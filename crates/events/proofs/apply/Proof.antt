@@ -8,6 +8,7 @@ apply-spec =
     tie.close
     (tie.spec
     (λ c κs. search needs)
-    (λ c. rw (← c .before .judged .ensures, ne-eqb _ _ (c .if1 .taken)))
     (λ c κs. search needs)
-    (λ c. rw (← c .before .before .judged .ensures, eq-eqb _ _ (c .before .if1 .left)) (c .step .ensures)))
+    (λ c. (rw (← c .before .before .judged .ensures, ne-eqb _ _ (c .before .if1 .taken)) (c .refused .ensures .0), c .refused .ensures .1))
+    (λ c κs. search needs)
+    (λ c. (rw (← c .before .before .judged .ensures, eq-eqb _ _ (c .before .if1 .left)) (c .step .ensures .0), c .step .ensures .1)))

@@ -22,7 +22,7 @@ run-slot-requires c κs = ((c .before .before .before .before .pre .0, c .before
 
 returns-2 : tie.Need-returns-2
 unfolding slot-run
-returns-2 c = rw (judged (c .before .before .before .before .before) _ _ (c .before .before .is-slot .ensures) (not-false _ (c .before .if1 .left)), ← c .run-slot .ensures) refl
+returns-2 c = rw (judged (c .before .before .before .before .before) _ _ (c .before .before .is-slot .ensures) (not-false _ (c .before .if1 .left)), ← c .run-slot .ensures .0, ← c .run-slot .ensures .1) refl
 
 pub run-in-spec : {M : Type 1} → statement M
 run-in-spec = tie.close (tie.spec (λ c κs. search needs) (λ c κs. search needs) returns run-slot-requires returns-2)

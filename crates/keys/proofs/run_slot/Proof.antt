@@ -35,8 +35,10 @@ returns c =
     let q = a .args .q in
     let s = a .args .bytes .now in
     let l = a .pre .0 .0 in
-    let n = a .pre .0 .1 in
-    c .run-places .ensures ∙ rw (places _ _ (c .before .before .before .before .wide .ensures .0), situation-is q s l n, events-are q s l n, readings-are q s l n, plan-is q s l n) refl
+    let n = a .pre .0 .1 in (
+      c .run-places .ensures .0 ∙ rw (places _ _ (c .before .before .before .before .wide .ensures .0), situation-is q s l n, events-are q s l n, readings-are q s l n, plan-is q s l n) refl,
+      c .run-places .ensures .1 ∙ rw (places _ _ (c .before .before .before .before .wide .ensures .0), situation-is q s l n, events-are q s l n, plan-is q s l n) refl,
+    )
 
 pub run-slot-spec : {M : Type 1} → statement M
 run-slot-spec = tie.close (tie.spec shared-slice-read-wide (λ c κs. search needs) (λ c. search needs) (λ c. search needs) (λ c. search needs) (λ c. search needs) (λ c. search needs) (λ c. search needs) (λ c. search needs) (λ c. search needs) (λ c. search needs) part-run-places-end-3 run-places-requires returns)

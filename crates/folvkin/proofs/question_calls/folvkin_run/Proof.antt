@@ -20,4 +20,7 @@ folvkin-run-spec =
     (λ c. search needs)
     (λ c. search needs)
     (λ c. search needs)
-    (λ c. rw (c .before .before .before .flag .ensures .0) (ap packed-run (c .before .before .before .before .run .ensures))))
+    (λ c. search needs)
+    (λ c. search needs)
+    (λ c. search needs)
+    (λ c. rw (c .before .before .before .before .flag .ensures .0) (ap packed-run (c .before .before .before .before .before .run .ensures))))
