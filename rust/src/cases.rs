@@ -1,6 +1,8 @@
 //! Cases and answers in the form of the vectors files: one case a line, its
 //! answer after a tab. A case is its word, then its numbers in decimal, the
-//! bytes that it reads in hex (`-` for none) and the length of its room.
+//! bytes that it reads in hex (`-` for none) and the length of its room. An
+//! answer is the refusal and then what the call tells: of an event the name
+//! and the situation after, of a run place, event's refusal, name and holds.
 
 use std::fmt::{self, Write};
 

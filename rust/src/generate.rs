@@ -83,6 +83,26 @@ pub fn sound(r: &mut Random, line: &Line) -> Situation {
     Situation::FRESH
 }
 
+/// A sound situation in which an order meets what is on the line: sections
+/// occupied, exit routes at A, at B or at both. What would refuse the order
+/// before is mostly away.
+pub fn in_use(r: &mut Random, line: &Line) -> Situation {
+    for _ in 0..64 {
+        let mut situation = in_range(r, line);
+        situation.pending = r.below(3) as u8;
+        situation.occupied &= !0 << r.below(line.sections().into());
+        situation.exit =
+            situation.orientation.map(|orientation| if orientation == IN { 0 } else { r.below(3) as u8 });
+        if !r.once_in(4) {
+            situation = Situation { link: 1, annulment: [NONE; 2], bilc: 0, reminder: 0, ..situation };
+        }
+        if situation.is_sound(line) {
+            return situation;
+        }
+    }
+    Situation::FRESH
+}
+
 /// A situation that accepted events lead to, from the fresh one or a sound
 /// one.
 pub fn reached(r: &mut Random, line: &Line) -> Situation {
@@ -166,6 +186,18 @@ pub fn event(r: &mut Random, line: &Line) -> Event {
     };
     Event { code, argument }
 }
+
+/// The orders that an occupied section or an exit route may refuse: by 9, by
+/// 13 and by 15.
+pub const MET: [u8; 7] = [
+    events::SOBB,
+    events::COBB,
+    events::AFBLI_ORDER,
+    events::AFBLE_ORDER,
+    events::BILC,
+    events::EXIT_NORMAL,
+    events::EXIT_SPECIAL,
+];
 
 /// An event's two bytes, in range or not.
 pub fn event_bytes(r: &mut Random, line: &Line) -> [u8; 2] {
@@ -279,6 +311,27 @@ pub fn question(r: &mut Random, search: Search) -> Question {
         1 => reached(r, &line),
         _ => sound(r, &line),
     };
+    question_from(r, search, line, start, event)
+}
+
+/// An accepted question on a line in use, which lists many orders that meet
+/// what is on it.
+pub fn question_in_use(r: &mut Random) -> Question {
+    let line = line(r);
+    let start = in_use(r, &line);
+    question_from(r, Search::Small, line, start, |r, line| match r.below(3) {
+        0 => event(r, line),
+        _ => Event { code: r.pick(&MET), argument: r.below(2) as u8 },
+    })
+}
+
+fn question_from(
+    r: &mut Random,
+    search: Search,
+    line: Line,
+    start: Situation,
+    event: impl Fn(&mut Random, &Line) -> Event,
+) -> Question {
     let count = if r.once_in(3) { 12 } else { r.from(1, 12) as usize };
     let mut length = r.below(6) as u8;
     if let Search::Small = search {
@@ -448,6 +501,16 @@ pub fn slot(r: &mut Random, question: &Question, answers: &[u8]) -> [u8; SLOT] {
             }
             *place = r.from(1, count) as u8;
         }
+    }
+    slot
+}
+
+/// A slot within the question whose last place, if it has one, is the one
+/// given.
+pub fn slot_to(r: &mut Random, question: &Question, place: usize) -> [u8; SLOT] {
+    let mut slot = slot(r, question, &[]);
+    if slot[0] != 0 {
+        slot[usize::from(slot[0])] = place as u8;
     }
     slot
 }

@@ -7,7 +7,7 @@ use crate::plain::refusal::number;
 use crate::plain::run::Run;
 use crate::plain::situation::LENGTH;
 use crate::plain::{
-    Aspects, Event, Line, Question, Refusal, Situation, key, marking, readings, records, run,
+    Aspects, Event, Line, Question, Refusal, Refused, Situation, key, marking, readings, records, run,
 };
 use crate::told;
 
@@ -33,7 +33,8 @@ macro_rules! with_the_calls {
                 () (plan plan_length, situation situation_length) () -> u8;
 
             /// Writes the situation after, as its record. Refusals 20, 1, 2,
-            /// 3, 4, 24 (a room under 96 bytes), then the event's own. Returns
+            /// 3, 4, 24 (a room under 96 bytes), then the event's own, of
+            /// which 9 and 13 name whom or what stands in the way. Returns
             /// [`told::Event`](crate::told::Event).
             Event event "event" folvkin_event
                 () (plan plan_length, situation situation_length, event event_length) (room room_length) -> u64;
@@ -57,7 +58,8 @@ macro_rules! with_the_calls {
             Key key "key" folvkin_key
                 () (question question_length, after after_length) (room room_length) -> u64;
 
-            /// Refusals of the question, 22. Returns
+            /// Tells the place, the refusal and the name where an event is
+            /// refused. Refusals of the question, 22. Returns
             /// [`told::Run`](crate::told::Run).
             Run run "run" folvkin_run
                 () (question question_length, slot slot_length) () -> u64;
@@ -143,14 +145,14 @@ fn situation_accepted(plan: &[u8], situation: &[u8]) -> Result<(Line, Situation)
 
 /// How long the situation is that was written.
 #[inline]
-fn event_written(plan: &[u8], situation: &[u8], event: &[u8], room: &mut [u8]) -> Result<usize, Refusal> {
+fn event_written(plan: &[u8], situation: &[u8], event: &[u8], room: &mut [u8]) -> Result<usize, Refused> {
     let given = Given::read(plan, situation)?;
     let [code, argument] = pair(event)?;
     let (line, mut situation) = given.judge()?;
     let event = Event { code, argument };
     event.check(&line)?;
     let room = room.first_chunk_mut::<EVENT_ROOM>().ok_or(Refusal::Room)?;
-    situation.apply(&line, event)?;
+    situation.apply_named(&line, event)?;
     room[..records::SITUATION].copy_from_slice(&situation.to_record());
     Ok(records::SITUATION)
 }
@@ -187,7 +189,7 @@ impl Interface for Plain {
     fn event(plan: &[u8], situation: &[u8], event: &[u8], room: &mut [u8]) -> u64 {
         match event_written(plan, situation, event, room) {
             Ok(length) => told::Event { length, ..Default::default() }.into(),
-            Err(refusal) => refusal as u64,
+            Err(Refused { refusal, name }) => told::Event { refusal: refusal as u8, name, length: 0 }.into(),
         }
     }
 
@@ -220,8 +222,9 @@ impl Interface for Plain {
     #[inline(never)]
     fn run(question: &[u8], slot: &[u8]) -> u64 {
         match Question::read(question).and_then(|question| run::run(&question, slot)) {
-            Ok(Run::Stopped { place, refusal }) => {
-                told::Run { place, event_refusal: refusal as u8, ..Default::default() }.into()
+            Ok(Run::Stopped { place, by: Refused { refusal, name } }) => {
+                let event_refusal = refusal as u8;
+                told::Run { place, event_refusal, name: name.into(), ..Default::default() }.into()
             }
             Ok(Run::Ended { holds }) => told::Run { holds: holds.into(), ..Default::default() }.into(),
             Err(refusal) => refusal as u64,

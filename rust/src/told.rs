@@ -5,7 +5,8 @@
 #[derive(Clone, Copy, Debug, Default, PartialEq, Eq)]
 pub struct Event {
     pub refusal: u8,
-    /// Whom or what the refusal names; none does yet.
+    /// Whom or what the refusal names: a station by its argument (9), a
+    /// section by its number (13), else 0.
     pub name: u8,
     /// How many bytes the situation after takes.
     pub length: usize,
@@ -80,7 +81,7 @@ pub struct Run {
     pub event_refusal: u8,
     /// 1 if no event is refused and all readings hold.
     pub holds: u8,
-    /// Whom or what the event's refusal names; none does yet.
+    /// Whom or what the event's refusal names, as in [`Event`].
     pub name: u32,
 }
 

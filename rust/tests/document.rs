@@ -1,19 +1,21 @@
-//! The marked examples of document 01, and laws that it states, on the plain
-//! implementation.
+//! The marked examples of document 01, laws that it states, and request 01 of
+//! document 02, on the plain implementation.
 
+use folvkin_compare::cases::from_hex;
 use folvkin_compare::generate::{self, Search};
 use folvkin_compare::plain::key::{SLOT, START, key};
 use folvkin_compare::plain::keytext::{key_text, whole_key};
 use folvkin_compare::plain::marking::{RIGHT, WRONG, mark};
 use folvkin_compare::plain::run::{Run, run};
-use folvkin_compare::plain::situation::{AFBLE, IN, NONE};
-use folvkin_compare::plain::{Aspects, Event, Line, Parts, Question, Refusal, Situation};
+use folvkin_compare::plain::situation::{AFBLE, IN, NONE, OUT};
+use folvkin_compare::plain::{Aspects, Event, Line, Parts, Question, Refusal, Refused, Situation};
 use folvkin_compare::random::Random;
 
 const A: u8 = 0;
 const B: u8 = 1;
 
 /// Plan 4, 2, from the fresh situation.
+#[derive(Clone, Copy)]
 struct Example {
     line: Line,
     situation: Situation,
@@ -25,9 +27,16 @@ impl Example {
     }
 
     fn event(&mut self, code: u8, argument: u8) -> u8 {
-        self.situation
-            .try_event(&self.line, Event { code, argument })
-            .map_or_else(|refusal| refusal as u8, |()| 0)
+        self.told(code, argument).0
+    }
+
+    /// The refusal and what it names.
+    fn told(&mut self, code: u8, argument: u8) -> (u8, u8) {
+        assert!(self.situation.is_sound(&self.line));
+        match self.situation.try_event(&self.line, Event { code, argument }) {
+            Ok(()) => (0, 0),
+            Err(Refused { refusal, name }) => (refusal as u8, name),
+        }
     }
 
     /// The events are all accepted.
@@ -57,7 +66,7 @@ fn example_2() {
     assert_eq!(example.aspects(), [0, 2, 2, 1, 0, 0, 0, 0]);
     assert_eq!(example.event(14, A), 0);
     assert_eq!(example.aspects()[0], 2);
-    assert_eq!(example.event(14, B), 13);
+    assert_eq!(example.event(14, B), 15);
 }
 
 #[test]
@@ -132,6 +141,170 @@ fn the_run_by_program() {
     let length = parts.write(&mut bytes).unwrap();
     assert_eq!(key_text(&bytes[..length]), "1 2 3\n1 2 3 4\n1 2 4 3\n1 4 2 3\n4 1 2 3\ntotal 5\n");
     assert_eq!(key_text(&bytes[..length - 1]), "refused 20\n");
+}
+
+/// "13 stays for an occupied section and now names the lowest occupied one."
+#[test]
+fn refusal_13_names_the_lowest_section() {
+    for code in [14, 15] {
+        let mut example = Example::after(&[(1, A), (2, B), (19, 4)]);
+        // B's first section has turned the line.
+        assert_eq!(example.told(code, A), (13, 4));
+        for (event, section, lowest) in [(19, 2, 2), (19, 3, 2), (19, 1, 1), (20, 1, 2), (20, 2, 3)] {
+            assert_eq!(example.event(event, section), 0);
+            assert_eq!(example.told(code, A), (13, lowest));
+        }
+        let mut example = Example::after(&[(1, A), (2, B), (19, 3), (19, 4)]);
+        assert_eq!(example.told(code, B), (13, 3));
+    }
+}
+
+/// "15 is for a free track with an exit route at the other station."
+#[test]
+fn refusal_15_is_for_a_free_track() {
+    for (own, other) in [(A, B), (B, A)] {
+        for (set, asked) in [(14, 14), (14, 15), (15, 14), (15, 15)] {
+            let mut example = Example::after(&[(1, other), (2, own), (set, other)]);
+            assert_eq!(example.told(asked, own), (15, 0));
+            assert_eq!(example.event(16, other), 0);
+            assert_eq!(example.told(asked, own), (0, 0));
+        }
+    }
+}
+
+/// "When both hold, 13 is given."
+#[test]
+fn refusal_13_goes_before_15() {
+    for code in [14, 15] {
+        let mut example = Example::after(&[(1, A), (2, B), (14, A), (19, 2)]);
+        assert_eq!(example.told(code, B), (13, 2));
+        assert_eq!(example.event(20, 2), 0);
+        assert_eq!(example.told(code, B), (15, 0));
+        // What is checked before still is: 6, and for the normal one 14.
+        assert_eq!(example.event(12, B), 0);
+        assert_eq!(example.told(code, B), if code == 14 { (14, 0) } else { (15, 0) });
+        assert_eq!((example.event(13, B), example.event(21, 0)), (0, 0));
+        assert_eq!(example.told(code, B), (6, 0));
+    }
+}
+
+/// "Refusal 9 names the station that holds the route, own where own is
+/// checked, else A first if both do."
+#[test]
+fn refusal_9_names_the_station() {
+    for (exit, any) in [([1, 0], A), ([0, 1], B), ([1, 1], A), ([2, 0], A), ([0, 2], B), ([2, 1], A)] {
+        let mut example = Example::new();
+        example.situation.exit = exit;
+        for own in [A, B] {
+            assert_eq!({ example }.told(1, own), (9, any));
+            let mut asked = example;
+            asked.situation.pending = 2 - own;
+            assert_eq!(asked.told(2, own), (9, any));
+            let due = if exit[usize::from(own)] != 0 { (9, own) } else { (0, 0) };
+            for code in [3, 4, 6] {
+                assert_eq!({ example }.told(code, own), due);
+            }
+        }
+    }
+}
+
+/// The names by the words of the request, on generated situations; no other
+/// refusal has one.
+#[test]
+fn only_9_and_13_name() {
+    let r = &mut Random::new(9);
+    for _ in 0..200_000 {
+        let line = generate::line(r);
+        let situation = if r.once_in(2) { generate::in_use(r, &line) } else { generate::sound(r, &line) };
+        let event = generate::event(r, &line);
+        let Err(Refused { refusal, name }) = { situation }.try_event(&line, event) else { continue };
+        let is_occupied = |k: u8| situation.occupied >> (k - 1) & 1 == 1;
+        let lowest = (1..=line.sections()).find(|&k| is_occupied(k));
+        let holds_route = |station: u8| situation.exit[usize::from(station)] != 0;
+        match (refusal as u8, event.code) {
+            (13, 14 | 15) => assert_eq!(Some(name), lowest),
+            (15, 14 | 15) => assert_eq!((name, lowest, holds_route(event.argument ^ 1)), (0, None, true)),
+            (9, 1 | 2) => assert_eq!(Some(name), [A, B].into_iter().find(|&station| holds_route(station))),
+            (9, 3 | 4 | 6) => assert_eq!((name, holds_route(name)), (event.argument, true)),
+            (5..=8 | 10..=12 | 14, _) => assert_eq!(name, 0),
+            other => panic!("{other:?}"),
+        }
+    }
+}
+
+/// A candidate's run tells the name beside place and refusal.
+#[test]
+fn runs_tell_the_name() {
+    let parts = Parts {
+        sections: 4,
+        frontier: 2,
+        situation: Situation::FRESH.to_bytes(),
+        events: &[[1, A], [2, B], [14, A], [14, B], [19, 3], [19, 2], [6, A], [1, B], [2, A], [6, B]],
+        readings: &[],
+        length: 5,
+    };
+    let question = parts.accept().unwrap();
+    for (slot, place, refusal, name) in [
+        ([4, 1, 2, 3, 4, 0], 4, Refusal::OtherExitRoute, 0),
+        ([5, 1, 2, 5, 6, 4], 5, Refusal::SectionOccupied, 2),
+        ([4, 1, 2, 5, 4, 0], 4, Refusal::SectionOccupied, 3),
+        ([4, 1, 2, 3, 7, 0], 4, Refusal::ExitRoute, A),
+        ([4, 1, 2, 3, 8, 0], 4, Refusal::ExitRoute, A),
+        ([4, 8, 9, 4, 10, 0], 4, Refusal::ExitRoute, B),
+        ([4, 8, 9, 4, 1, 0], 4, Refusal::ExitRoute, B),
+        ([2, 1, 1, 0, 0, 0], 2, Refusal::Pending, 0),
+    ] {
+        let by = Refused { refusal, name };
+        assert_eq!(run(&question, &slot), Ok(Run::Stopped { place, by }));
+    }
+}
+
+/// Papers that list exit routes, and how many sequences their keys had before
+/// the request; see NOTES.md.
+const PAPERS: [(&str, usize); 2] = [
+    (
+        "4c42080453490100000000000000000100000000000000000045560c0201010102000e000f0113011401110103000500150016005244020200010104024c4e05",
+        227,
+    ),
+    (
+        "4c42050353490001020000000000000000010008000000000045560c040005000f001301130213031404160009000a02030111005244020300020103014c4e05",
+        4_213,
+    ),
+];
+
+/// "Keys do not change": an exit route is refused just where document 01
+/// refuses it, whose 13 is 13 or 15 now.
+#[test]
+fn keys_stay_as_they_were() {
+    let r = &mut Random::new(10);
+    for _ in 0..200_000 {
+        let line = generate::line(r);
+        let s = generate::in_use(r, &line);
+        let (code, own) = (r.pick(&[14, 15]), r.index(2));
+        let under_afble = code == 15 && s.annulment[own] == AFBLE;
+        let checks = [
+            (5, s.exit[own] != 0),
+            (11, s.bilc >> own & 1 == 1),
+            (8, !under_afble && s.annulment[own] != NONE),
+            (14, code == 14 && s.reminder >> own & 1 == 1),
+            (6, !under_afble && s.link == 0),
+            (12, !under_afble && s.orientation[own] == NONE),
+            (13, !under_afble && s.orientation[own] == IN && !s.line_is_free()),
+        ];
+        let as_in_01 = checks.into_iter().find(|check| check.1).map_or(0, |check| check.0);
+        let mut after = s;
+        let given = match after.try_event(&line, Event { code, argument: own as u8 }) {
+            Ok(()) => 0,
+            Err(Refused { refusal: Refusal::OtherExitRoute, .. }) => 13,
+            Err(Refused { refusal, .. }) => refusal as u8,
+        };
+        assert_eq!(given, as_in_01);
+        assert!(given != 0 || under_afble || after.orientation[own] == OUT);
+    }
+    for (paper, sequences) in PAPERS {
+        let question = Question::read(&from_hex(paper).unwrap()).unwrap();
+        assert_eq!(whole_key(&question).len(), sequences * SLOT);
+    }
 }
 
 /// "Every accepted event leads from a sound situation to a sound one."

@@ -197,7 +197,68 @@ fn what_an_event_wrote_is_lent_to_the_next() {
     assert_eq!(happen([1, 0]), (0, [0; 8]));
     assert_eq!(happen([2, 1]), (0, [0, 2, 2, 1, 0, 0, 0, 0]));
     assert_eq!(happen([14, 0]), (0, [2, 2, 2, 1, 0, 0, 0, 0]));
-    assert_eq!(happen([14, 1]), (13, [2, 2, 2, 1, 0, 0, 0, 0]));
+    assert_eq!(happen([14, 1]), (15, [2, 2, 2, 1, 0, 0, 0, 0]));
+}
+
+/// A out and B in, sections 3 and 4 occupied: exit routes at B are refused by
+/// 13, which names section 3.
+const OCCUPIED: &[u8; 21] = b"SI\x01\x01\x02\0\0\0\0\0\0\0\0\0\0\x0c\0\0\0\0\0";
+
+/// The same with an exit route at A, and with that alone.
+const BOTH: &[u8; 21] = b"SI\x01\x01\x02\0\0\x01\0\0\0\0\0\0\0\x0c\0\0\0\0\0";
+const ROUTE: &[u8; 21] = b"SI\x01\x01\x02\0\0\x01\0\0\0\0\0\0\0\0\0\0\0\0\0";
+
+/// B out and A in, an exit route at B.
+const ROUTE_AT_B: &[u8; 21] = b"SI\x01\x02\x01\0\0\0\x01\0\0\0\0\0\0\0\0\0\0\0\0";
+
+/// Situations, events that they refuse, the refusals and what they name.
+const NAMED: [(&[u8; 21], [u8; 2], u64, u64); 9] = [
+    (OCCUPIED, [14, 1], 13, 3),
+    (BOTH, [15, 1], 13, 3),
+    (ROUTE, [14, 1], 15, 0),
+    (ROUTE, [1, 1], 9, 0),
+    (ROUTE, [3, 0], 9, 0),
+    (ROUTE_AT_B, [1, 0], 9, 1),
+    (ROUTE_AT_B, [4, 1], 9, 1),
+    (ROUTE_AT_B, [6, 1], 9, 1),
+    (ROUTE_AT_B, [14, 1], 5, 0),
+];
+
+/// "The name replaces one of 01's zeros": the one after the refusal. Where the
+/// call is refused for another reason it stays.
+#[test]
+fn events_tell_the_name() {
+    for (situation, event, refusal, name) in NAMED {
+        let mut room = [7; EVENT_ROOM];
+        assert_eq!(Plain::event(b"LB\x04\x02", situation, &event, &mut room), refusal + (name << 8));
+        assert_eq!(Plain::event(b"LC\x04\x02", situation, &event, &mut room), 20);
+        assert_eq!(Plain::event(b"LB\x04\x02", situation, &[event[0], event[1], 0], &mut room), 20);
+        assert_eq!(Plain::event(b"LB\x04\x04", situation, &event, &mut room), 1);
+        let mut unsound = *situation;
+        unsound[2] = 2;
+        assert_eq!(Plain::event(b"LB\x04\x02", &unsound, &event, &mut room), 2);
+        assert_eq!(Plain::event(b"LB\x04\x02", situation, &[event[0], 2], &mut room), 4);
+        assert_eq!(Plain::event(b"LB\x04\x02", situation, &event, &mut room[1..]), 24);
+        assert_eq!(room, [7; EVENT_ROOM]);
+    }
+}
+
+/// A run tells the name too, in its last field; a call that is refused tells
+/// none.
+#[test]
+fn runs_tell_the_name() {
+    for (situation, [code, argument], refusal, name) in NAMED {
+        // A reminder at A is accepted and changes none of the refusals.
+        let lists = [*b"EV\x02\x0c\0", [code, argument, b'R', b'D', 0]].concat();
+        let question = [b"LB\x04\x02", &situation[..], &lists, b"LN\x02"].concat();
+        for (slot, place) in [([1, 2, 0, 0, 0, 0], 1), ([2, 1, 2, 0, 0, 0], 2), ([2, 2, 1, 0, 0, 0], 1)] {
+            assert_eq!(Plain::run(&question, &slot), (place << 8) + (refusal << 16) + (name << 32));
+        }
+        assert_eq!(Plain::run(&question, &[1, 1, 0, 0, 0, 0]), 1 << 24);
+        assert_eq!(Plain::run(&question, &[1, 2, 0, 0, 0]), 22);
+        assert_eq!(Plain::run(&question, &[1, 2, 1, 0, 0, 0]), 22);
+        assert_eq!(Plain::run(&question[1..], &[1, 2, 0, 0, 0, 0]), 20);
+    }
 }
 
 /// A candidate's slot runs as its events do one by one, and the readings hold
@@ -206,7 +267,8 @@ fn what_an_event_wrote_is_lent_to_the_next() {
 fn runs_are_events_one_by_one() {
     let r = &mut Random::new(3);
     for _ in 0..20_000 {
-        let question = generate::question(r, Search::Any);
+        let question =
+            if r.once_in(2) { generate::question(r, Search::Any) } else { generate::question_in_use(r) };
         let bytes = generate::question_bytes(&question);
         let (plan, situation) = (&bytes[..4], &bytes[4..25]);
         let slot = generate::slot(r, &question, &[]);
@@ -217,7 +279,7 @@ fn runs_are_events_one_by_one() {
             let mut room = [0; EVENT_ROOM];
             let told = told::Event::from(Plain::event(plan, &situation, &event, &mut room));
             if told.refusal != 0 {
-                right = told::Run { place, event_refusal: told.refusal, ..right };
+                right = told::Run { place, event_refusal: told.refusal, name: told.name.into(), ..right };
                 break;
             }
             situation = room[..told.length].to_vec();
@@ -301,13 +363,17 @@ fn answers_are_those_of_the_vectors_files() {
     let plan = "4c420402";
     let fresh = "534901000000000000000000000000000000000000";
     let asked = "534901000000000000000001000000000000000000";
+    let occupied = "5349010102000000000000000000000c0000000000";
     let question = format!("{plan}{fresh}455602010002015244010200014c4e02");
+    let on_occupied = format!("{plan}{occupied}4556010e015244004c4e01");
     for (case, right) in [
         (format!("plan {plan}"), "0".to_string()),
         ("plan -".into(), "20".into()),
         (format!("sound {plan} {fresh}"), "0".into()),
         (format!("event {plan} {fresh} 0100 96"), format!("0 0 {asked}")),
         (format!("event {plan} {fresh} 0100 95"), "24 0 -".into()),
+        (format!("event {plan} {occupied} 0e01 96"), "13 3 -".into()),
+        (format!("event {plan} {occupied} 0e01 95"), "24 0 -".into()),
         (format!("aspects {plan} {fresh} 8"), "0 0000000000000000".into()),
         (format!("aspects {plan} {fresh} 7"), "24 -".into()),
         (format!("reading {plan} {fresh} 0500"), "0 0".into()),
@@ -315,6 +381,8 @@ fn answers_are_those_of_the_vectors_files() {
         (format!("key {question} ff0000000000 6"), "0 1 0 020102000000".into()),
         (format!("run {question} 020102000000"), "0 0 0 0 1".into()),
         (format!("run {question} 020101000000"), "0 2 7 0 0".into()),
+        (format!("run {on_occupied} 010100000000"), "0 1 13 3 0".into()),
+        (format!("run {on_occupied} 010000000000"), "22 0 0 0 0".into()),
         ("number 1 1500 100 50 0 0 13".into(), "0 00000000000058420200000000".into()),
         (format!("keytext {question}"), "1 2|total 1|".into()),
     ] {

@@ -11,6 +11,8 @@
 //! to, a slot to go on after) is what both gave, or the earlier case counts as
 //! a difference.
 
+use std::collections::BTreeMap;
+use std::fmt;
 use std::process::ExitCode;
 use std::time::Instant;
 
@@ -27,7 +29,7 @@ use folvkin_compare::interface::{EVENT_ROOM, Plain};
 use folvkin_compare::lent::Lent;
 use folvkin_compare::lent::Placed;
 use folvkin_compare::plain::key::{SLOT, START};
-use folvkin_compare::plain::records::{SITUATION, plan_record};
+use folvkin_compare::plain::records::{PLAN, SITUATION, plan_record};
 use folvkin_compare::plain::{Event, Line, Question, Situation, events, readings};
 use folvkin_compare::random::Random;
 use folvkin_compare::told;
@@ -79,12 +81,65 @@ fn usage() -> ExitCode {
 }
 
 /// What is counted of one kind of case.
-#[derive(Clone, Copy)]
+#[derive(Default)]
 struct Tally {
     cases: u64,
     differences: u64,
-    /// Accepted, and refused by number.
-    refusals: [u64; 256],
+    refusals: Refusals,
+    /// The refusals of the events at which runs stop.
+    stops: Refusals,
+}
+
+/// How often each refusal came, by what it names.
+#[derive(Default)]
+struct Refusals(BTreeMap<u8, BTreeMap<u32, u64>>);
+
+impl Refusals {
+    fn add(&mut self, refusal: u8, name: u32) {
+        *self.0.entry(refusal).or_default().entry(name).or_default() += 1;
+    }
+
+    fn times(&self, refusal: u8) -> u64 {
+        self.0.get(&refusal).map_or(0, |names| names.values().sum())
+    }
+
+    fn all(&self) -> u64 {
+        self.0.keys().map(|&refusal| self.times(refusal)).sum()
+    }
+}
+
+/// Each refusal with its times, after it those of its names if it has some.
+impl fmt::Display for Refusals {
+    fn fmt(&self, f: &mut fmt::Formatter) -> fmt::Result {
+        for (&refusal, names) in self.0.iter().filter(|&(&refusal, _)| refusal != 0) {
+            write!(f, ", {refusal}: {}", self.times(refusal))?;
+            if names.keys().any(|&name| name != 0) {
+                let names: Vec<_> = names.iter().map(|(name, times)| format!("{name}: {times}")).collect();
+                write!(f, " ({})", names.join(", "))?;
+            }
+        }
+        Ok(())
+    }
+}
+
+impl Tally {
+    fn count(&mut self, kind: Kind, returned: u64) {
+        self.cases += 1;
+        match kind {
+            Kind::Event => {
+                let told = told::Event::from(returned);
+                self.refusals.add(told.refusal, told.name.into());
+            }
+            Kind::Run => {
+                let told = told::Run::from(returned);
+                self.refusals.add(told.refusal, 0);
+                if told.event_refusal != 0 {
+                    self.stops.add(told.event_refusal, told.name);
+                }
+            }
+            _ => self.refusals.add(returned as u8, 0),
+        }
+    }
 }
 
 /// Where the slices of a case lie: those that are read, then the room.
@@ -218,7 +273,7 @@ impl Comparison {
             limit,
             trace,
             cases: 0,
-            tallies: [Tally { cases: 0, differences: 0, refusals: [0; 256] }; Kind::ALL.len()],
+            tallies: Default::default(),
             library: Caller::new(),
             plain: Vec::with_capacity(LARGEST_ROOM),
             noise,
@@ -247,9 +302,7 @@ impl Comparison {
         let places = std::array::from_fn(|_| self.placed());
         let returned = case.call::<Plain>(case.read, &mut self.plain);
         self.cases += 1;
-        let tally = &mut self.tallies[case.kind as usize];
-        tally.cases += 1;
-        tally.refusals[(returned & 255) as usize] += 1;
+        self.tallies[case.kind as usize].count(case.kind, returned);
         self.call_library(&case, places, returned);
         returned
     }
@@ -303,16 +356,15 @@ impl Comparison {
         for &kind in Kind::ALL {
             let tally = &self.tallies[kind as usize];
             print!(
-                "{:<9} {:>10} cases, {} differences; accepted {}",
+                "{:<9} {:>10} cases, {} differences; accepted {}{}",
                 kind.shape().word,
                 tally.cases,
                 tally.differences,
-                tally.refusals[0]
+                tally.refusals.times(0),
+                tally.refusals
             );
-            for (number, &times) in tally.refusals.iter().enumerate().skip(1) {
-                if times != 0 {
-                    print!(", {number}: {times}");
-                }
+            if kind == Kind::Run {
+                print!("; stopped {}{}", tally.stops.all(), tally.stops);
             }
             println!();
         }
@@ -329,13 +381,14 @@ impl Comparison {
     fn generated(&mut self) {
         self.sweeps();
         while self.cases < self.limit {
-            match self.random.below(100) {
+            match self.random.below(108) {
                 0 => self.plan(),
                 1..38 => self.situation(),
                 38..44 => self.walk_by_events(),
                 44..50 => self.damaged_questions(),
                 50..75 => self.question(),
-                _ => (0..6).for_each(|_| self.number()),
+                75..100 => (0..6).for_each(|_| self.number()),
+                _ => self.line_in_use(),
             }
             if self.random.once_in(3_000) {
                 self.damage_sweep();
@@ -472,6 +525,24 @@ impl Comparison {
             }
             self.check(Case::aspects(&plan, &situation, &aspects_room));
             self.check(Case::situation(&plan, &situation));
+        }
+    }
+
+    /// A line in use: each order that meets what is on it, by both stations,
+    /// and slots that end in each of the events listed.
+    fn line_in_use(&mut self) {
+        let question = generate::question_in_use(&mut self.random);
+        let bytes = generate::question_bytes(&question);
+        let (plan, rest) = bytes.split_at(PLAN);
+        let room = self.room(EVENT_ROOM);
+        for code in generate::MET {
+            for station in 0..2 {
+                self.check(Case::event(plan, &rest[..SITUATION], &[code, station], &room));
+            }
+        }
+        for place in 1..=question.events().len() {
+            let slot = generate::slot_to(&mut self.random, &question, place);
+            self.check(Case::run(&bytes, &slot));
         }
     }
 

@@ -1,8 +1,8 @@
 //! "Checks run in the order written; the first that fails gives the refusal."
 
-use super::line::{A, TOWARDS_A};
+use super::line::{A, B, TOWARDS_A};
 use super::situation::{AFBLE, AFBLI, IN, NONE, NORMAL, OUT, SPECIAL};
-use super::{Line, Refusal, Situation};
+use super::{Line, Refusal, Refused, Situation};
 
 pub const SOBB: u8 = 1;
 pub const COBB: u8 = 2;
@@ -151,10 +151,33 @@ impl Situation {
         }
     }
 
+    /// The same, and the refusal tells its name. A name is looked for only
+    /// here, after a refusal: keys need none.
+    #[inline]
+    pub fn apply_named(&mut self, line: &Line, event: Event) -> Result<(), Refused> {
+        self.apply(line, event).map_err(|refusal| Refused { refusal, name: self.name(event, refusal) })
+    }
+
     /// The order of the calls: 3 and 4, then the event's own.
-    pub fn try_event(&mut self, line: &Line, event: Event) -> Applied {
+    pub fn try_event(&mut self, line: &Line, event: Event) -> Result<(), Refused> {
         event.check(line)?;
-        self.apply(line, event)
+        self.apply_named(line, event)
+    }
+
+    /// What the refusal of an event names, in the situation that refused it.
+    fn name(&self, event: Event, refusal: Refusal) -> u8 {
+        match refusal {
+            // "13 stays for an occupied section and now names the lowest
+            // occupied one."
+            Refusal::SectionOccupied => self.occupied.trailing_zeros() as u8 + 1,
+            // "Refusal 9 names the station that holds the route, own where own
+            // is checked, else A first if both do."
+            Refusal::ExitRoute => match event.code {
+                SOBB | COBB => (if self.exit[A] != 0 { A } else { B }) as u8,
+                _ => event.argument,
+            },
+            _ => 0,
+        }
     }
 
     fn ask_orientation(&mut self, own: usize) -> Applied {
@@ -209,7 +232,10 @@ impl Situation {
             refuse_if(self.link == 0, Refusal::LinkDown)?;
             refuse_if(self.orientation[own] == NONE, Refusal::Orientation)?;
             if self.orientation[own] == IN {
-                refuse_if(!self.line_is_free(), Refusal::LineNotFree)?;
+                // What else a free line needs holds here: link is up, and own
+                // has no exit route.
+                refuse_if(self.occupied != 0, Refusal::SectionOccupied)?;
+                refuse_if(self.exit[own ^ 1] != 0, Refusal::OtherExitRoute)?;
                 self.orient(own);
             }
         }

@@ -1,4 +1,4 @@
-//! The refusal numbers of document 01.
+//! The refusal numbers, and what an event's refusal names.
 
 #[derive(Clone, Copy, Debug, PartialEq, Eq)]
 #[repr(u8)]
@@ -27,10 +27,13 @@ pub enum Refusal {
     Bilc = 11,
     /// The own orientation does not allow it.
     Orientation = 12,
-    /// The own station is in and the line is not free.
-    LineNotFree = 13,
+    /// The own station is in and a section is occupied.
+    SectionOccupied = 13,
     /// The blocking reminder is on.
     Reminder = 14,
+    /// The own station is in, "a free track with an exit route at the other
+    /// station".
+    OtherExitRoute = 15,
     /// A wrong mark, bytes missing or left over, a count out of range.
     Form = 20,
     /// LN above 5, an event listed twice, a reading out of range.
@@ -41,6 +44,22 @@ pub enum Refusal {
     Number = 23,
     /// Too little room.
     Room = 24,
+}
+
+/// A refusal and whom or what it names: a station by its argument, a section
+/// by its number. 9 names a station and 13 a section, all others have 0.
+#[derive(Clone, Copy, Debug, PartialEq, Eq)]
+pub struct Refused {
+    pub refusal: Refusal,
+    pub name: u8,
+}
+
+/// A refusal that names nothing.
+impl From<Refusal> for Refused {
+    #[inline]
+    fn from(refusal: Refusal) -> Refused {
+        Refused { refusal, name: 0 }
+    }
 }
 
 /// The number of a result: 0 is accepted.
