@@ -20,8 +20,10 @@ static void write_slot(uint8_t slot[6], int count, char **places) {
 static void run(const uint8_t *paper, size_t length, const uint8_t slot[6]) {
     uint64_t told = folvkin_run(paper, length, slot, 6);
     int refusal = told & 255, place = told >> 8 & 255;
-    int event_refusal = told >> 16 & 255, holds = told >> 24 & 255;
+    int event_refusal = told >> 16 & 255, holds = told >> 24 & 255, name = told >> 32;
     if (refusal) printf("refused %d\n", refusal);
+    else if (event_refusal == 13) printf("event %d of the sequence is refused: 13, section %d is occupied\n", place, name);
+    else if (event_refusal == 9) printf("event %d of the sequence is refused: 9, exit route at %c\n", place, 'A' + name);
     else if (place) printf("event %d of the sequence is refused: %d\n", place, event_refusal);
     else puts(holds ? "all readings hold" : "not all readings hold");
 }

@@ -28,11 +28,15 @@
  *     same memory.
  *   - Bytes of a room past what was written keep their values.
  *   - Where it refuses, the refusal's number comes back, all other fields of
- *     the result are zero and no byte of the room is changed.
+ *     the result are zero, but for the name beside 9 and 13 (below), and no
+ *     byte of the room is changed.
+ *   - A result of several fields has the refusal in its lowest byte: compare
+ *     `r & 0xff` with a refusal, not `r`. Every field but the last is a byte,
+ *     so `r >> 8 & 0xff` is the second.
  *
- * Refusals (0 is accepted):
+ * Refusals (0 is accepted; own is the station that the event's argument names):
  *
- *    1  the plan is none
+ *    1  the plan: n or b out of range
  *    2  the situation is not sound
  *    3  unknown event code
  *    4  the event's argument is out of range
@@ -40,12 +44,17 @@
  *    6  the link is down
  *    7  a SOBB is pending, or not the one needed
  *    8  the own station is annulled
- *    9  an exit route is set
+ *    9  an exit route is set; it names the station that holds it, 0 A or 1 B:
+ *       own for AFBLI, AFBLE and BILC, for SOBB and COBB A where A has one,
+ *       else B
  *   10  the own entry route is set
  *   11  BILC is set
  *   12  the own orientation does not allow it
- *   13  the own station is in and the line is not free
+ *   13  the own station is in and a section is occupied; it names the lowest
+ *       occupied section by its number
  *   14  the blocking reminder is on
+ *   15  the own station is in, no section is occupied and the other station has
+ *       an exit route
  *   20  a record with wrong letters, bytes missing or left over, a count out
  *       of range; an event or a reading of another length than two
  *   21  LN above 5, an event listed twice, a reading out of range
@@ -53,8 +62,13 @@
  *   23  numeric question or unit byte out of range
  *   24  too little room
  *
+ * Every number but 9 and 13 has the name 0; beside 9 the name 0 is station A,
+ * so test the refusal and not the name.
+ *
  * Where several apply, the first in the order 20, 1, 2, 3 and 4 (event by
- * event), 21, 22, 24, then 5 to 14; for numbers 23, then 24.
+ * event), 21, 22, 24, then the event's own, which are numbered 5 to 15 and come
+ * in the order of the event's row in document 01, 15 directly after 13; for
+ * numbers 23, then 24.
  */
 #ifndef FOLVKIN_H
 #define FOLVKIN_H
@@ -79,8 +93,10 @@ uint8_t folvkin_situation(const uint8_t *plan, size_t plan_length, const uint8_t
  *   room  takes the situation after, as its record, which with the length
  *         returned can be lent to the next call (with another room); less
  *         than 96 bytes is refused by 24, whatever the length written
- * Returns refusal + 2^8 name + 2^16 length: how many bytes were written. The
- * name is 0. Refusals 20, 1, 2, 3, 4, 24, then the event's own, 5 to 14. */
+ * Returns refusal + 2^8 name + 2^16 length. The name is the section (13) or the
+ * station (9) that the refusal names, else 0; the length is how many bytes were
+ * written, 0 where it refuses. Refusals 20, 1, 2, 3, 4, 24, then the event's
+ * own, numbered 5 to 15. */
 uint64_t folvkin_event(const uint8_t *plan, size_t plan_length, const uint8_t *situation,
                        size_t situation_length, const uint8_t *event, size_t event_length, uint8_t *room,
                        size_t room_length);
@@ -117,12 +133,14 @@ uint64_t folvkin_key(const uint8_t *question, size_t question_length, const uint
                      size_t after_length, uint8_t *room, size_t room_length);
 
 /* Runs a candidate's slot, which has length and places within the question. It
- * stops at the first refused event and tells its place and refusal, or says
- * whether all readings hold.
+ * stops at the first refused event and tells its place and refusal and what
+ * that names, or says whether all readings hold.
  * Returns refusal + 2^8 place + 2^16 event's refusal + 2^24 holds + 2^32 name.
- * The place is that within the slot, from 1, and 0 if no event is refused;
- * holds is 1 if all readings hold at the end. The name is 0. Refusals 20, 1,
- * 2, 3, 4, 21, 22. */
+ * The refusal is 0 also where an event is refused: that is a result. The place
+ * is that within the slot, from 1, the event's refusal one of 5 to 15, the name
+ * (r >> 32, in 64 bits) what that refusal names, and holds 0; where no event is
+ * refused all three are 0, and holds is 1 if all readings hold at the end.
+ * Refusals 20, 1, 2, 3, 4, 21, 22. */
 uint64_t folvkin_run(const uint8_t *question, size_t question_length, const uint8_t *slot,
                      size_t slot_length);
 
