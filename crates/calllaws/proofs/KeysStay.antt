@@ -12,9 +12,8 @@ use Rattle.rulebook.specs.Apply.{stepped, Outcome}
 use Rattle.rulebook.specs.Laws.{stepped-in-01}
 use Rattle.rulebook.proofs.AsIn01.{accepted-in-01, refused-as-in-01}
 use Rattle.records.specs.Lists.{event-at}
-use Rattle.paper.specs.Question.{Question}
 use Rattle.keys.specs.Key.{rules}
-use Rattle.calllaws.specs.Laws.{rules-in-01, KeysStay}
+use Rattle.calllaws.specs.Laws.{KeysStay}
 
 -- ---- rules that accept the same events, which lead to the same situations, have the same answers
 module _ (X : Type 0) (n : ℕ) (holds : X → Bool) (r s : X → ℕ → ℕ) (f g : X → ℕ → X)

@@ -1,7 +1,7 @@
 -- A candidate's run stops at the first event that is refused, applied where those before it have led, and tells place, refusal and what that names.
 -- From what a run tells over any rules, and that along a run from a sound situation `stepped` and `applied` agree. Assumes nothing.
 use Prim.Native.Nat.{ℕ, _+_, _<_}
-use mathlib.Core.Path.{_≡_, refl, sym, ap, ap₂, subst, _∙_}
+use mathlib.Core.Path.{_≡_, sym, ap, ap₂, subst, _∙_}
 use mathlib.Core.Bool.{true}
 use mathlib.Core.List.{List, [], _∷_}
 use lib.ListN.{length, take, getD}
@@ -29,7 +29,6 @@ use Rattle.paper.proofs.Accepted.{Accepted, accepted}
 use Rattle.paper.proofs.ReadBytes.{read-is-accepted}
 use Rattle.keys.specs.Key.{question-in, rules}
 use Rattle.keys.specs.Calls.{told, slot-run}
-use Rattle.keys.specs.declared.Ran.{Ran}
 use Rattle.folvkin.specs.Questions.{packed-run}
 use Rattle.calllaws.specs.Answers.{events-of, outcomes, AllAccepted, at-the-end}
 use Rattle.calllaws.specs.Laws.{RunStops}

@@ -12,8 +12,6 @@ use Rattle.rulebook.specs.Checks.{Row, ⟶_, _┃_, _when_, enough-when_
 use Rattle.rulebook.specs.Place.{place}
 use Rattle.rulebook.specs.Table.{Kind, ExitNormal, ExitSpecial, table, kind-of}
 use Rattle.rulebook.specs.Apply.{refuses, leads, refusal-at, led-at, known, argument-right, spot, own-refusal, reached, accepted, refused, acted, stepped, Outcome}
-use Rattle.block.specs.declared.line.Plan.{Plan}
-use Rattle.block.specs.declared.event.Event.{Event}
 use Rattle.block.specs.declared.event.Spot.{Spot}
 use Rattle.rulebook.proofs.InTable.{Known, by-test, at-code, its-code}
 use Rattle.rulebook.specs.Laws.{kind-in-01, refusal-in-01, stepped-in-01, number-in-01, RefusedAsIn01}

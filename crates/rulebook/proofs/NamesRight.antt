@@ -1,6 +1,6 @@
 -- (02, Req 01) What refusals name: 13 the lowest occupied section, 9 a station that has an exit route, every other number nothing; and that 15 is for
 -- a free track with an exit route at the other station. Assumes nothing.
-use Prim.Native.Nat.{ℕ, _+_, _≤_, _<_}
+use Prim.Native.Nat.{ℕ, _≤_, _<_}
 use mathlib.Core.Bool.{Bool, true, false, not, false≢true}
 use mathlib.Core.Logic.{_⊎_, inl, inr, ⊎-elim}
 use mathlib.Core.Path.{_≡_, refl, sym, ap, subst, _∙_}
@@ -14,13 +14,13 @@ use Rattle.sections.specs.Sections.{none, _belongs-to_, sections-up-to}
 use Rattle.sections.proofs.SetLaws.{no-sections, none-outside}
 use Rattle.block.specs.Line.{isPlan, opposite, station-named}
 use Rattle.block.proofs.PlanLaws.{plan-short}
-use Rattle.rulebook.specs.Situation.{Situation, Kept, Station, Track, seen-from, station, any-exit-route, track-clear, _is-in, _has-exit-route}
-use Rattle.rulebook.specs.Sound.{sound, held-sound, setsSound}
+use Rattle.rulebook.specs.Situation.{Situation, Kept, seen-from, station, any-exit-route, track-clear, _is-in, _has-exit-route}
+use Rattle.rulebook.specs.Sound.{sound, held-sound}
 use Rattle.rulebook.specs.Judged.{judged}
 use Rattle.rulebook.specs.Checks.{Row, ⟶_, _┃_, _when_, enough-when_, refusal}
 use Rattle.rulebook.specs.Place.{place}
 use Rattle.rulebook.specs.Table as events
-use Rattle.rulebook.specs.Table.{Kind, Sobb, Cobb, Afbli, Afble, Bilc, ExitNormal, ExitSpecial, table, kind-of}
+use Rattle.rulebook.specs.Table.{Kind, Afbli, Afble, Bilc, ExitNormal, ExitSpecial, table, kind-of}
 use Rattle.rulebook.specs.Apply.{refuses, refusal-at, known, fits, argument-right, named, spot, own-refusal, reached, accepted, refused, acted, stepped, applied, Outcome}
 use Rattle.rulebook.specs.Names.{lowest-from, lowest-occupied, station-argument, any-checked, route-holder, own-of, name}
 use Rattle.block.specs.declared.line.Plan.{Plan}
