@@ -83,7 +83,8 @@ RunStops =
     AllAccepted before → (refusal ≡ 0 → ⊥) →
     run-packed question slot ≡ packed-run (told (stopped (i + 1) refusal) (name (q .plan) x e refusal))
 
--- ---- (02, Req 01) "keys do not change": the key of every question is the list of answers by document 01's rows
+-- ---- (02, Req 01) "keys do not change": the key of every question is the list of answers by rows in which 13 and 15 are one check, as document 01
+-- has it
 abbrev pub rules-in-01 : Question → Rules
 rules-in-01 q =
     let step : Kept → ℕ → Outcome = λ x place. stepped-in-01 (q .plan) x (event-at (q .events) place) in

@@ -1,9 +1,15 @@
 -- What refuses an event of a section or of a signal, and where one leads that leaves the stations, is the same as either station sees it.
 -- Assumes nothing.
 use Prim.Native.Nat.{ℕ}
+use mathlib.Core.Bool.{Bool, not}
 use mathlib.Core.Path.{_≡_, refl, sym, ap, _∙_}
-use Rattle.sections.specs.Sections.{_with-section_, _without-section_}
-use Rattle.rulebook.specs.Situation.{Situation, Kept, seen-from, kept-from, held, with-held, withTrack, withOccupied}
+use lib.Dec.{eqb}
+use Rattle.words.specs.Words.{_and_, if_then_else_}
+use Rattle.words.proofs.Tests.{or-turned}
+use Rattle.sections.specs.Sections.{none, _with-section_, _without-section_}
+use Rattle.rulebook.specs.Situation.{Situation, Kept, seen-from, kept-from, held, with-held, withTrack, _has-exit-route}
+use Rattle.rulebook.specs.Place.{place}
+use Rattle.rulebook.specs.Events.{still-occupied, watch-freed}
 use Rattle.rulebook.specs.Table.{Kind, Bslb, BslbOff, Occupied, Freed}
 use Rattle.rulebook.specs.Apply.{refuses, leads, refusal-at, led-at}
 use Rattle.block.specs.declared.line.Name.{Name}
@@ -62,7 +68,7 @@ module _ (at : Spot) (x : Kept) where
   clear y = with-held (at .direction) (held y (at .direction) without-section at .section) y
 
   abbrev free : Situation → Situation
-  free y = withTrack (withOccupied (y .traffic .track .occupied without-section at .section) (y .traffic .track)) y
+  free y = withTrack (record { occupied = still-occupied (place at y) y; watch = watch-freed (place at y) y }) y
 
   set-alike : (s : Name) → set x ≡ kept-from s (set (seen-from s x))
   set-alike StationA = refl
@@ -74,7 +80,10 @@ module _ (at : Spot) (x : Kept) where
 
   free-alike : (s : Name) → free x ≡ kept-from s (free (seen-from s x))
   free-alike StationA = refl
-  free-alike StationB = refl
+  free-alike StationB =
+      let watch = x .traffic .track .watch in
+      ap (λ (v : Bool). withTrack (record { occupied = still-occupied (place at x) x; watch = record { mark = watch .mark; count = if eqb (still-occupied (place at x) x) none and watch .mark and not v then 10 else watch .count } }) x)
+      (or-turned (x .traffic .own has-exit-route) (x .traffic .other has-exit-route))
 
   pub bslb-led : {z : Kept} → z ≡ leads Bslb at x → z ≡ led-at Bslb at x
   bslb-led = led-alike Bslb at x set (λ y. stays y refl refl) set-alike

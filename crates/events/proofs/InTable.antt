@@ -58,16 +58,16 @@ abbrev pub by-number : ℕ → ℕ
 by-number c =
     if eqb c 10 or eqb c 11 then 2 else
     if eqb c 19 or eqb c 20 then 3 else
-    if eqb c 21 or eqb c 22 then 4 else
+    if leb 21 c and leb c 23 then 4 else
     if leb 1 c and leb c 18 then 1 else 0
 
-above : (c : ℕ) → 23 ≤ c → by-number c ≡ 0
+above : (c : ℕ) → 24 ≤ c → by-number c ≡ 0
 above c h =
-    rw (ne-eqb c 10 (λ e. omega arith), ne-eqb c 11 (λ e. omega arith), ne-eqb c 19 (λ e. omega arith), ne-eqb c 20 (λ e. omega arith), ne-eqb c 21 (λ e. omega arith), ne-eqb c 22 (λ e. omega arith), le-leb 1 c (omega arith), lt-leb c 18 (omega arith))
+    rw (ne-eqb c 10 (λ e. omega arith), ne-eqb c 11 (λ e. omega arith), ne-eqb c 19 (λ e. omega arith), ne-eqb c 20 (λ e. omega arith), le-leb 21 c (omega arith), lt-leb c 23 (omega arith), le-leb 1 c (omega arith), lt-leb c 18 (omega arith))
 
 pub names-by-number : (c : ℕ) → by-number c ≡ kind-of c .argument
-names-by-number c = go (decLt c 23)
+names-by-number c = go (decLt c 24)
   where
-    go : Dec (c < 23) → by-number c ≡ kind-of c .argument
-    go (yes h) = eqb→eq (by-number c) (kind-of c .argument) (at-each (λ n. eqb (by-number n) (kind-of n .argument)) 23 0 tt c (omega arith) h)
-    go (no h) = above c (omega arith) ∙ sym (ap (λ (k : Kind). k .argument) (no-kind 22 tt c (λ low high. omega arith)))
+    go : Dec (c < 24) → by-number c ≡ kind-of c .argument
+    go (yes h) = eqb→eq (by-number c) (kind-of c .argument) (at-each (λ n. eqb (by-number n) (kind-of n .argument)) 24 0 tt c (omega arith) h)
+    go (no h) = above c (omega arith) ∙ sym (ap (λ (k : Kind). k .argument) (no-kind 23 tt c (λ low high. omega arith)))

@@ -48,7 +48,7 @@ fn argument_of(code: u8) -> u8
     if (code == 19) | (code == 20) {
         return SECTION;
     }
-    if (code == 21) | (code == 22) {
+    if (21 <= code) & (code <= 23) {
         return NOTHING;
     }
     if (1 <= code) & (code <= 18) {
@@ -86,7 +86,7 @@ pub fn argument_right(plan: Plan, event: Event) -> bool
     fits(plan, names, event.argument)
 }
 
-// Where an event of a station happens, or of the link, for which A stands.
+// Where an event of a station happens, or of the link or a second, for which A stands.
 fn at_station(plan: Plan, arg: u8) -> Spot
     ensures { λ r. ⌜ r ≡ spot-named plan station arg ⌝ }
 {
@@ -149,6 +149,7 @@ pub fn own_refusal(plan: Plan, x: Situation, event: Event) -> u8
         20 => refusals::freed_refusal(x, at_owner(plan, arg)),
         21 => refusals::link_lost_refusal(seen, at),
         22 => refusals::link_restored_refusal(seen, at),
+        23 => refusals::second_refusal(seen, at),
         _ => UNKNOWN_CODE,
     }
 }
@@ -194,6 +195,7 @@ pub fn next(plan: Plan, x: Situation, event: Event) -> Situation
         20 => x.freed(at_owner(plan, arg)),
         21 => seen.link_lost(at).seen_from(own),
         22 => seen.link_restored(at).seen_from(own),
+        23 => seen.second(at).seen_from(own),
         _ => x,
     }
 }

@@ -5,11 +5,14 @@ use mathlib.Core.List.{List, [], _∷_}
 use mathlib.Core.Path.{_≡_}
 use lib.Dec.{T, eqb}
 use Rattle.words.specs.Words.{_and_}
-use Rattle.rulebook.specs.Situation.{Kept, fresh}
+use Rattle.rulebook.specs.Situation.{Kept, blank, out, inward, no-route, normal, _becomes_, _with-exit_, withStations, withTrack, fresh}
+use Rattle.rulebook.specs.Judged.{judged}
+use Rattle.block.specs.declared.codes.Route.{Route}
 use Rattle.block.specs.declared.line.Plan.{Plan}
-use Rattle.rulebook.specs.Table.{Sobb, Cobb, Afbli, Afble, Dafbl, Bilc, Bslg, ExitNormal, ExitSpecial, Occupied, LinkLost, LinkRestored}
+use Rattle.rulebook.specs.Table.{Sobb, Cobb, Afbli, Afble, Dafbl, Bilc, Bslg, ExitNormal, ExitSpecial, ExitReleased, Occupied, Freed, LinkLost, LinkRestored, Second}
 use Rattle.rulebook.specs.Apply.{event, applied}
 use Rattle.rulebook.specs.Names.{name}
+use Rattle.rulebook.specs.Laws as laws
 use Rattle.signals.specs.Readings.{value-read}
 use Rattle.numeric.specs.Exact.{exactAnswer, isNumber, exactValue}
 use Rattle.marking.specs.Sheet.{marked}
@@ -26,6 +29,9 @@ infix 80 towards-B-show_
 infix 80 towards-A-show_
 infix 80 orientation_is_
 infix 80 annulment_is_
+infix 80 line-reads_
+infix 90 _seconds-pass
+infix 70 with-mark_counting_on-sections_and-route_is-judged_
 infix 70 _then_
 infix 70 _metres-at_exactly_seconds
 infix 70 _metres-at_within_typed_/2^18-gets_error_
@@ -67,8 +73,17 @@ exit-route = ExitNormal .code
 abbrev pub special-exit : ℕ
 special-exit = ExitSpecial .code
 
+abbrev pub exit-released : ℕ
+exit-released = ExitReleased .code
+
 abbrev pub occupied : ℕ
 occupied = Occupied .code
+
+abbrev pub freed : ℕ
+freed = Freed .code
+
+abbrev pub second-passed : ℕ
+second-passed = Second .code
 
 abbrev pub link-lost : ℕ
 link-lost = LinkLost .code
@@ -80,6 +95,7 @@ link-restored = LinkRestored .code
 pub data Tried : Type 0 where
   _at_gives_ : ℕ → ℕ → ℕ → Tried
   _at_gives_naming_ : ℕ → ℕ → ℕ → ℕ → Tried
+  _seconds-pass : ℕ → Tried
 
 pub data Seen : Type 0 where
   signal_shows_ : ℕ → ℕ → Seen
@@ -87,10 +103,12 @@ pub data Seen : Type 0 where
   towards-A-show_ : List ℕ → Seen
   orientation_is_ : ℕ → ℕ → Seen
   annulment_is_ : ℕ → ℕ → Seen
+  line-reads_ : ℕ → Seen
 
 pub data Row : Type 0 where
   _then_ : List Tried → List Seen → Row
   _metres-at_exactly_seconds : ℕ → ℕ → ℕ → Row
+  with-mark_counting_on-sections_and-route_is-judged_ : Bool → ℕ → ℕ → Route → ℕ → Row
   _metres-at_within_typed_/2^18-gets_error_ : ℕ → ℕ → ℕ → ℕ → ℕ → ℕ → Row
   _metres-at_within-0-no-float-is-right : ℕ → ℕ → Row
 
@@ -105,6 +123,7 @@ is-seen x (towards-B-show vs) = show-from x 1 vs
 is-seen x (towards-A-show vs) = show-from x 129 vs
 is-seen x (orientation s is v) = eqb (value-read plan x 2 s) v
 is-seen x (annulment s is v) = eqb (value-read plan x 3 s) v
+is-seen x (line-reads v) = eqb (value-read plan x 5 0) v
 
 abbrev pub all-seen : Kept → List Seen → Bool
 all-seen x [] = true
@@ -115,6 +134,11 @@ go x [] rs = all-seen x rs
 go x ((code at arg gives refusal) ∷ es) rs = eqb (applied plan x (event code arg) .refusal) refusal and go (applied plan x (event code arg) .next) es rs
 go x ((code at arg gives refusal naming n) ∷ es) rs =
     eqb (applied plan x (event code arg) .refusal) refusal and eqb (name plan x (event code arg) refusal) n and go (applied plan x (event code arg) .next) es rs
+go x ((n seconds-pass) ∷ es) rs = go (laws.seconds n plan x) es rs
+
+-- the fresh situation with this mark, count, set of occupied sections, and exit route of A, which is out then
+abbrev pub watched : Bool → ℕ → ℕ → Route → Kept
+watched m n k r = withTrack (record { occupied = k; watch = record { mark = m; count = n } }) (withStations (blank becomes out with-exit r) (blank becomes inward) fresh)
 
 -- the float that is nearest to n / 2 ^ 18, and whether it is n / 2 ^ 18 exactly
 abbrev pub over-2^18 : ℕ → Float
@@ -129,6 +153,7 @@ Gets m verdict e = (m .refusal ≡ 0) × (m .line .verdict ≡ verdict) × (m .l
 
 unfoldable pub Holds : Row → Type 0
 Holds (es then rs) = T (go fresh es rs)
+Holds (with-mark m counting n on-sections k and-route r is-judged refusal) = judged plan (watched m n k r) ≡ refusal
 Holds (d metres-at v exactly t seconds) = exactAnswer 1 d v .top ≡ t * exactAnswer 1 d v .bottom
 Holds (d metres-at v within tolerance typed n /2^18-gets verdict error e) =
     Exactly (over-2^18 n) n × Gets (marked 1 d v tolerance (Seconds (over-2^18 n))) verdict e
@@ -176,4 +201,29 @@ table =
     ∷ ((SOBB at A gives 0 ∷ COBB at B gives 0 ∷ exit-route at A gives 0 ∷ exit-route at B gives 15 naming 0 ∷ occupied at 1 gives 0 ∷ special-exit at B gives 13 naming 1 ∷ []) then [])
     ∷ ((SOBB at B gives 0 ∷ COBB at A gives 0 ∷ exit-route at B gives 0 ∷ SOBB at A gives 9 naming B ∷ AFBLI at B gives 9 naming B ∷ []) then [])
     ∷ ((AFBLE at A gives 0 ∷ special-exit at A gives 0 ∷ DAFBL at A gives 0 ∷ AFBLE at B gives 0 ∷ special-exit at B gives 0 ∷ DAFBL at B gives 0 ∷ SOBB at B gives 9 naming A ∷ AFBLE at B gives 9 naming B ∷ BILC at A gives 9 naming A ∷ []) then [])
+    -- ten seconds after a stray occupation (02, Req 02): 13 names section 0, the line is not free, and its first section does not turn it
+    ∷ ((SOBB at A gives 0 ∷ COBB at B gives 0 ∷ occupied at 3 gives 0 ∷ freed at 3 gives 0 ∷ exit-route at B gives 13 naming 0 ∷ 9 seconds-pass ∷ exit-route at B gives 13 naming 0 ∷ 1 seconds-pass ∷ exit-route at B gives 0 ∷ [])
+    then (orientation B is 1 ∷ []))
+    ∷ ((occupied at 3 gives 0 ∷ freed at 3 gives 0 ∷ 9 seconds-pass ∷ []) then (line-reads 1 ∷ []))
+    ∷ ((occupied at 3 gives 0 ∷ freed at 3 gives 0 ∷ 10 seconds-pass ∷ []) then (line-reads 0 ∷ []))
+    ∷ ((SOBB at A gives 0 ∷ COBB at B gives 0 ∷ occupied at 3 gives 0 ∷ freed at 3 gives 0 ∷ occupied at 4 gives 0 ∷ freed at 4 gives 0 ∷ 9 seconds-pass ∷ []) then (orientation B is 2 ∷ line-reads 1 ∷ []))
+    -- an exit route of the station that is out ends it
+    ∷ ((SOBB at A gives 0 ∷ COBB at B gives 0 ∷ occupied at 3 gives 0 ∷ freed at 3 gives 0 ∷ exit-route at A gives 0 ∷ exit-released at A gives 0 ∷ []) then (line-reads 0 ∷ []))
+    -- AFBLE that stays on its own first section does not stop the mark; A's first section does not turn the line either; the argument is 0
+    ∷ ((AFBLE at A gives 0 ∷ occupied at 1 gives 0 ∷ freed at 1 gives 0 ∷ []) then (annulment A is 2 ∷ line-reads 1 ∷ []))
+    ∷ ((SOBB at B gives 0 ∷ COBB at A gives 0 ∷ occupied at 2 gives 0 ∷ freed at 2 gives 0 ∷ occupied at 1 gives 0 ∷ second-passed at 1 gives 4 ∷ []) then (orientation A is 2 ∷ []))
+    -- across the frontier nothing is expected with link down
+    ∷ ((SOBB at A gives 0 ∷ COBB at B gives 0 ∷ exit-route at A gives 0 ∷ occupied at 1 gives 0 ∷ exit-released at A gives 0 ∷ occupied at 2 gives 0 ∷ link-lost at 0 gives 0 ∷ occupied at 3 gives 0 ∷ freed at 1 gives 0 ∷ freed at 2 gives 0 ∷ freed at 3 gives 0 ∷ link-restored at 0 gives 0 ∷ [])
+    then (line-reads 1 ∷ []))
+    -- what is sound of mark and count
+    ∷ (with-mark true counting 10 on-sections 0 and-route no-route is-judged 0)
+    ∷ (with-mark true counting 0 on-sections 4 and-route no-route is-judged 0)
+    ∷ (with-mark true counting 11 on-sections 0 and-route no-route is-judged 2)
+    ∷ (with-mark false counting 5 on-sections 0 and-route no-route is-judged 2)
+    ∷ (with-mark true counting 5 on-sections 4 and-route no-route is-judged 2)
+    ∷ (with-mark true counting 0 on-sections 0 and-route no-route is-judged 2)
+    ∷ (with-mark true counting 0 on-sections 4 and-route normal is-judged 2)
+    -- a train that is expected everywhere leaves a free line behind it at once
+    ∷ ((SOBB at A gives 0 ∷ COBB at B gives 0 ∷ exit-route at A gives 0 ∷ occupied at 1 gives 0 ∷ exit-released at A gives 0 ∷ occupied at 2 gives 0 ∷ freed at 1 gives 0 ∷ occupied at 3 gives 0 ∷ freed at 2 gives 0 ∷ freed at 3 gives 0 ∷ [])
+    then (line-reads 0 ∷ []))
     ∷ []

@@ -31,7 +31,7 @@ use signals::lights::all_lights;
 use signals::lights::shown;
 use signals::readings::reading;
 use situation::Situation;
-use situations::record_of;
+use situations::put_situation;
 use situations::situation_in;
 use soundness::judged;
 
@@ -90,12 +90,11 @@ fn event_written(plan: Plan, x: Situation, event: Event, room: &mut [u8]) -> u64
         let name = name_of(plan, x, event, refusal);
         return refusal as u64 + 256 * (name as u64);
     }
-    let si = record_of(next(plan, x, event));
-    let length = bytes::copy(&si, room);
+    let length = put_situation(next(plan, x, event), room);
     65536 * (length as u64)
 }
 
-// Refusal + 2^8 name + 2^16 length; 13 names the lowest occupied section, 9 the station that holds the exit route (0 A, 1 B). An accepted event writes the situation after it, as records; later bytes keep their values, and a refused one
+// Refusal + 2^8 name + 2^16 length; 13 names the lowest occupied section (0 where a count runs alone), 9 the station that holds the exit route (0 A, 1 B). An accepted event writes the situation after it, as records; later bytes keep their values, and a refused one
 // changes no byte.
 #[no_mangle]
 pub extern "C" fn folvkin_event(plan: &[u8], situation: &[u8], event: &[u8], room: &mut [u8]) -> u64

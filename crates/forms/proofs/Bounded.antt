@@ -1,17 +1,18 @@
 -- Forms that write at most so many bytes: how many follows from how they are put together. Assumes nothing.
 use Prim.Native.Nat.{ℕ, _+_, _*_, _≤_, _<_}
 use mathlib.Core.Path.{_≡_, refl, ap}
-use mathlib.Core.Bool.{true}
+use mathlib.Core.Bool.{Bool, true, false}
 use mathlib.Core.List.{List, [], _∷_}
 use native.Mathlib.Omega.{arith}
 use native.Mathlib.Nat.{mul-le-mul}
 use borrow.Author.Tests.{leb-true}
 use lib.ListN.{length, length-append}
 use lib.Dec.{leb}
-use Rattle.words.specs.Words.{_and_}
+use Rattle.words.specs.Words.{_and_, _or_, if_then_else_}
 use Rattle.forms.specs.declared.Letters.{Letters}
 use Rattle.forms.specs.Form.{Form}
 use Rattle.forms.specs.Compose.{_▸_, letters, all, each-written, counted, named}
+use Rattle.forms.specs.Choices.{_or-else_}
 use Rattle.forms.specs.Whole.{Whole, refused, accepted, whole}
 use Rattle.forms.specs.Laws.{Lawful}
 use Rattle.forms.proofs.Reading.{both}
@@ -37,6 +38,14 @@ letters-bounded m Z = record { bounded = λ a h. omega (arith, Z .bounded a h) }
 
 pub named-bounded : {A B : Type 0} (make : A → B) (parts : B → A) {n : ℕ} {F : Form A} → Bounded n F → Bounded n (named make parts F)
 named-bounded make parts Z = record { bounded = λ b h. Z .bounded (parts b) h }
+
+-- the second of two forms is the longer one
+pub choice-bounded : {A : Type 0} {m n : ℕ} {F G : Form A} → m ≤ n → Bounded m F → Bounded n G → Bounded n (F or-else G)
+choice-bounded {n = n} {F = F} {G = G} l Y Z = record { bounded = λ a h. by a (F .writes a) refl h }
+  where
+    by : (a : _) (v : Bool) → F .writes a ≡ v → v or G .writes a ≡ true → length (if v then F .written a else G .written a) ≤ n
+    by a true e h = omega (arith, l, Y .bounded a e)
+    by a false e h = Z .bounded a h
 
 module _ {A : Type 0} {n : ℕ} {F : Form A} (Z : Bounded n F) where
   each-bounded : (items : List A) → all (F .writes) items ≡ true → length (each-written F items) ≤ length items * n

@@ -12,3 +12,4 @@ pub mod Bounded
 pub mod Taken
 pub mod InTurn
 pub mod WholeTaken
+pub mod Copied

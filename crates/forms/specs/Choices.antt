@@ -1,4 +1,5 @@
--- A reader of document 01 need not believe this file: forms that no record of it uses, one of two, and one that is left out where it is zero.
+-- A value that stands for itself without a byte, and one of two forms, as SI and SJ are (02, Req 02). What is left out where it is zero, and so many
+-- values, no record uses yet.
 use Prim.Native.Nat.{ℕ}
 use mathlib.Core.Bool.{Bool, true, not}
 use mathlib.Core.List.{List, [], _∷_}

@@ -17,6 +17,7 @@ use Rattle.records.specs.Question.{Parts, question}
 use Rattle.records.specs.Laid.{si-at, ev-at, rd-at, ln-at, laid-in}
 use Rattle.records.specs.InBytes.{part, plan-at, codes-at, events-in, readings-in}
 use Rattle.records.specs.declared.question.Laid.{Laid}
+use Rattle.records.proofs.SituationForms.{size-between}
 use Rattle.records.proofs.Lies.{fits, plan-lies, situation-lies, events-found, readings-found, count-lies, length-lies, long}
 use Rattle.lists.specs.Refusal.{lists-refusal}
 use Rattle.paper.specs.Question.{Question, question-of}
@@ -88,7 +89,7 @@ module _ (s : List ℕ) (at : Laid) (i : Is s at) where
   -- ---- the places are in the bytes
   pub record Within : Type 0 where
     pub plan : 4 ≤ length s
-    pub situation : at .si + 21 ≡ at .ev
+    pub situation : at .si + 21 ≤ at .ev
     pub events : at .ev + 3 ≤ at .rd
     pub readings : at .rd + 3 ≤ at .ln
     pub length : at .ln + 3 ≡ length s
@@ -100,7 +101,7 @@ module _ (s : List ℕ) (at : Laid) (i : Is s at) where
       let l = long s v (i .whole) in
       record {
         plan = omega (arith, l .end);
-        situation = omega (arith, si-is, ev-is, l .si, l .ev);
+        situation = omega (arith, si-is, ev-is, l .si, l .ev, size-between (v .1 .0) .0);
         events = omega (arith, ev-is, rd-is, l .ev, l .rd);
         readings = omega (arith, rd-is, ln-is, l .rd, l .ln);
         length = omega (arith, ln-is, l .ln, l .end);

@@ -1,17 +1,20 @@
--- A question has at most 76 bytes, as many as its five records have one after the other; whatever is longer has "bytes .. left over": 20.
+-- A question has at most 78 bytes, as many as its five records have one after the other; whatever is longer has "bytes .. left over": 20.
 -- Assumes nothing.
 use Prim.Native.Nat.{ℕ, _+_, _≤_, _<_}
 use mathlib.Core.Path.{_≡_}
 use mathlib.Core.List.{List}
+use native.Mathlib.Omega.{arith}
 use lib.ListN.{length}
 use Rattle.forms.specs.Form.{Form}
-use Rattle.forms.specs.Compose.{byte, _⊗_, section}
-use Rattle.forms.proofs.Sizes.{byte-takes, section-takes}
-use Rattle.forms.proofs.Bounded.{Bounded, size-bounded, sequence-bounded, letters-bounded, counted-bounded, named-bounded, accepted-bounded, longer-is-refused}
+use Rattle.forms.specs.Compose.{byte, _⊗_}
+use Rattle.forms.proofs.Simple.{byte-law, left-out-law}
+use Rattle.forms.proofs.Sizes.{byte-takes, left-out-takes}
+use Rattle.forms.proofs.Bounded.{Bounded, size-bounded, sequence-bounded, letters-bounded, counted-bounded, named-bounded, choice-bounded, accepted-bounded, longer-is-refused}
 use Rattle.records.specs.Plan.{LB, plan-of, plan-parts, plan}
-use Rattle.records.specs.Situation.{SI, pair, codes-made, code-parts, situation}
+use Rattle.records.specs.Situation.{SI, SJ, situation}
 use Rattle.records.specs.Lists.{EV, RD, LN, event-of, event-parts, events, reading-of, reading-parts, readings, answer-length}
 use Rattle.records.specs.Question.{question}
+use Rattle.records.proofs.Records.{codes-takes}
 use Rattle.records.proofs.QuestionLaws.{question-law}
 use Rattle.paper.specs.Read.{refused, readOf}
 use Rattle.paper.proofs.ReadBytes.{no-form-is-20, accepted-bytes}
@@ -23,22 +26,16 @@ Y & Z = sequence-bounded Y (λ _. Z)
 a-byte : Bounded 1 byte
 a-byte = size-bounded (byte-takes .sized)
 
-a-pair : Bounded 2 pair
-a-pair = a-byte & a-byte
-
-a-field : Bounded 2 (section 2)
-a-field = size-bounded (section-takes 2 .sized)
-
 plan-bounded : Bounded 4 plan
 unfolding plan
 plan-bounded = letters-bounded LB (named-bounded plan-of plan-parts (a-byte & a-byte))
 
-situation-bounded : Bounded 21 situation
+situation-bounded : Bounded 23 situation
 unfolding situation
 situation-bounded =
-    letters-bounded SI
-    (named-bounded codes-made code-parts
-    (a-byte & a-pair & a-pair & a-pair & a-pair & a-byte & a-byte & a-byte & a-byte & a-field & a-field & a-field))
+    choice-bounded (omega arith)
+    (letters-bounded SI (size-bounded (codes-takes (left-out-law 0) (left-out-takes 0) .sized)))
+    (letters-bounded SJ (size-bounded (codes-takes byte-law byte-takes .sized)))
 
 events-bounded : Bounded 27 events
 unfolding events
@@ -52,12 +49,12 @@ length-bounded : Bounded 3 answer-length
 unfolding answer-length
 length-bounded = letters-bounded LN a-byte
 
-pub question-bounded : Bounded 76 question
+pub question-bounded : Bounded 78 question
 unfolding question
 question-bounded = plan-bounded & situation-bounded & events-bounded & readings-bounded & length-bounded
 
-pub at-most-76-bytes : (bytes : List ℕ) → readOf bytes .refusal ≡ 0 → length bytes ≤ 76
-at-most-76-bytes bytes ok = let a = accepted-bytes bytes ok in accepted-bounded (question-law .lawful) question-bounded bytes (a .parts) (a .form)
+pub at-most-78-bytes : (bytes : List ℕ) → readOf bytes .refusal ≡ 0 → length bytes ≤ 78
+at-most-78-bytes bytes ok = let a = accepted-bytes bytes ok in accepted-bounded (question-law .lawful) question-bounded bytes (a .parts) (a .form)
 
-pub longer-than-76-is-refused : (bytes : List ℕ) → 76 < length bytes → readOf bytes ≡ refused 20
-longer-than-76-is-refused bytes h = no-form-is-20 bytes (longer-is-refused (question-law .lawful) question-bounded bytes h)
+pub longer-than-78-is-refused : (bytes : List ℕ) → 78 < length bytes → readOf bytes ≡ refused 20
+longer-than-78-is-refused bytes h = no-form-is-20 bytes (longer-is-refused (question-law .lawful) question-bounded bytes h)

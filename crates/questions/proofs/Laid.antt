@@ -1,10 +1,10 @@
 -- Forms that are laid one after the other into a room. Assumes nothing.
 use Prim.Native.Nat.{ℕ, _+_, _-_}
-use mathlib.Core.Path.{_≡_, refl, sym, _∙_}
+use mathlib.Core.Path.{_≡_, refl, sym}
 use mathlib.Core.List.{List, [], _++_, append-assoc, append-nil}
 use native.Mathlib.Omega.{arith}
 use lib.ListN.{length, take, drop, length-append, length-drop, drop-of-length-le}
-use lib.Seq.{take-at, drop-at, drop-drop, take-length}
+use lib.Seq.{take-at, drop-at, drop-drop}
 use Rattle.records.specs.Plan.{plan}
 use Rattle.records.specs.Situation.{codes-of, situation}
 use Rattle.records.specs.Lists.{events, readings, answer-length}
@@ -12,10 +12,6 @@ use Rattle.records.specs.Question.{question}
 use Rattle.records.proofs.InBytes.{part-from}
 use Rattle.paper.specs.Question.{Question, written}
 use Rattle.forms.specs.Form.{laid}
-
--- what a copy leaves
-pub copied : (a room after : List ℕ) → after ≡ take (length a) a ++ drop (length a) room → after ≡ laid a room
-copied a room after e = e ∙ rw take-length
 
 -- so many bytes, a form, are put at the front of a room
 abbrev pub Put : ℕ → List ℕ → List ℕ → List ℕ → Type 0
@@ -35,10 +31,6 @@ module _ (q : Question) where
   pub plan-long : length (plan .written (q .plan)) ≡ 4
   unfolding plan
   plan-long = refl
-
-  pub situation-long : length (situation .written (codes-of (q .situation))) ≡ 21
-  unfolding situation
-  situation-long = refl
 
   pub length-long : length (answer-length .written (q .length)) ≡ 3
   unfolding answer-length

@@ -45,4 +45,5 @@ module _ (at : Found) (bytes : List ℕ) (e : found-as at bytes ≡ readOf bytes
         → (told (record { refusal = 0; question = record { plan = at .plan; situation = at .situation; events = events; readings = readings; length = at .length } }) ≡ readOf bytes)
         × ((zeros-past 2 events ≡ events) × (zeros-past 3 readings ≡ readings))
     items-read events readings f g =
-        (rw (events-filled events-bytes events f, readings-filled readings-bytes readings g, ← ok) e, (zeros-kept 2 events-bytes events f, zeros-kept 3 readings-bytes readings g))
+        let refused-with : ℕ → Read = λ (n : ℕ). record { refusal = n; question = found-as at bytes .question } in
+        (rw (events-filled events-bytes events f, readings-filled readings-bytes readings g) (ap refused-with (sym ok) ∙ e), (zeros-kept 2 events-bytes events f, zeros-kept 3 readings-bytes readings g))

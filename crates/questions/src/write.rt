@@ -1,5 +1,6 @@
 // A question, written as bytes into lent room: one record after the other.
 ghost use mathlib.Core.Path.{_≡_};
+ghost use mathlib.Core.Bool.{true};
 ghost use mathlib.Core.List.{_∷_};
 ghost use Prim.Native.Nat.{_+_, _*_, _≤_};
 ghost use lib.ListN.{length, take};
@@ -7,6 +8,7 @@ ghost use Rattle.situation.specs.Packed.{unpacked};
 ghost use Rattle.records.specs.Plan.{plan};
 ghost use Rattle.records.specs.Situation.{codes-of, situation};
 ghost use Rattle.records.specs.Lists.{answer-length};
+ghost use Rattle.records.specs.InBytes.{situation-size};
 ghost use Rattle.paper.specs.Question.{written};
 ghost use Rattle.forms.specs.Form.{laid};
 ghost use Rattle.questions.specs.Write.{writtenOf, room-after};
@@ -24,8 +26,8 @@ use records::lists::LN;
 use records::lists::RD;
 use records::lists::READING;
 use records::plan::LB;
-use situation::Situation;
-use situations::record_of;
+use situations::put_situation;
+use situations::record_size;
 use words::wide;
 
 // How many bytes were written, or the refusal and 0.
@@ -34,8 +36,8 @@ pub struct Written {
     pub length: usize,
 }
 
-// LB 4, SI 21, EV 3, RD 3 and LN 3 bytes, before any event or reading.
-const LEAST_LENGTH: usize = 34;
+// LB 4, EV 3, RD 3 and LN 3 bytes, before the situation and any event or reading.
+const LEAST_LENGTH: usize = 13;
 
 fn put_plan(p: Plan, room: &mut [u8]) -> usize
     requires { ⌜ 4 ≤ length (now room) ⌝ }
@@ -45,15 +47,6 @@ fn put_plan(p: Plan, room: &mut [u8]) -> usize
     let letters = LB;
     let lb = [letters.first, letters.second, p.sections, p.frontier];
     bytes::copy(&lb, room)
-}
-
-fn put_situation(x: Situation, room: &mut [u8]) -> usize
-    requires { ⌜ 21 ≤ length (now room) ⌝ }
-    ensures { λ r. ⌜ r ≡ 21 ⌝ }
-    ensures { λ _. ⌜ now (room .exit) ≡ laid (situation .written (codes-of (unpacked x))) (now (room .entry)) ⌝ }
-{
-    let si = record_of(x);
-    bytes::copy(&si, room)
 }
 
 // Two letters, the count, and items of so many bytes each.
@@ -80,7 +73,8 @@ fn put_length(n: u8, room: &mut [u8]) -> usize
 }
 
 fn put_question(q: Question, room: &mut [u8]) -> usize
-    requires { ⌜ (q .events .count ≤ 12) × (q .readings .count ≤ 6) × (34 + 2 * q .events .count + 3 * q .readings .count ≤ length (now room)) ⌝ }
+    requires { ⌜ (q .events .count ≤ 12) × (q .readings .count ≤ 6) × (situation .writes (codes-of (unpacked (q .situation))) ≡ true) ⌝ }
+    requires { ⌜ 13 + situation-size (codes-of (unpacked (q .situation))) + 2 * q .events .count + 3 * q .readings .count ≤ length (now room) ⌝ }
     ensures { λ r. ⌜ r ≡ length (written (asked q)) ⌝ }
     ensures { λ _. ⌜ now (room .exit) ≡ laid (written (asked q)) (now (room .entry)) ⌝ }
 {
@@ -100,7 +94,8 @@ pub fn write_question(q: Question, room: &mut [u8]) -> Written
     if refusal != ACCEPTED {
         return Written { refusal, length: 0 };
     }
-    let size = LEAST_LENGTH + EVENT * wide(q.events.count) + READING * wide(q.readings.count);
+    let lists = EVENT * wide(q.events.count) + READING * wide(q.readings.count);
+    let size = LEAST_LENGTH + record_size(q.situation) + lists;
     if room.len() < size {
         return Written {
             refusal: SHORT_ROOM,

@@ -4,14 +4,16 @@ use Prim.Native.Nat.{ℕ, _<_}
 use mathlib.Core.Path.{_≡_}
 use mathlib.Core.Bool.{true}
 use native.Mathlib.Omega.{arith}
-use borrow.Author.Tests.{lt-ltb}
+use borrow.Author.Tests.{le-leb, lt-ltb}
 use lib.Dec.{T, leb, ltb}
+use Rattle.words.proofs.Tests.{or-turned}
 use Rattle.forms.proofs.Reading.{both}
 use Rattle.block.specs.Line.{isPlan}
 use Rattle.rulebook.specs.Sound.{sound}
 use Rattle.block.specs.declared.line.Plan.{Plan}
 use Rattle.rulebook.specs.Situation.{Kept}
 use Rattle.records.specs.Situation.{Codes, field-of, codes-of, in-range, said, situation-of, situation}
+use Rattle.records.specs.InBytes.{both-zero}
 use Rattle.records.proofs.SoundParts.{Encodable, encodable}
 use Rattle.records.proofs.CodeByCode.{flag-in-range, code-in-range, bits-in-range, flag-back, code-first, code-second, bits-A, bits-B, sections-back, flag-again, code-again, bits-again, field-again}
 
@@ -46,11 +48,12 @@ said-back x k =
       sections-back (x .traffic .track .occupied) (k .occupied .0),
       sections-back (x .signals .held .towardsb) (k .heldb .0),
       sections-back (x .signals .held .towardsa) (k .helda .0),
+      flag-back (x .traffic .track .watch .mark),
     )
 
-made-in-range : (x : Kept) → in-range (codes-of x) ≡ true
+made-in-range : (x : Kept) → Encodable x → in-range (codes-of x) ≡ true
 unfolding codes-of in-range
-made-in-range x = simp (flag-in-range, code-in-range, bits-in-range)
+made-in-range x k = simp (flag-in-range, code-in-range, bits-in-range, le-leb (x .traffic .track .watch .count) 10 (k .count))
 
 fits : (m : ℕ) → m < 131072 → ltb (field-of m) 65536 ≡ true
 fits m h = lt-ltb (field-of m) 65536 (omega arith)
@@ -58,13 +61,14 @@ fits m h = lt-ltb (field-of m) 65536 (omega arith)
 module _ (p : Plan) (x : Kept) (h : T (isPlan p)) (k : T (sound p x)) where
   pub codes-say : situation-of (codes-of x) ≡ x
   unfolding situation-of
-  codes-say = rw (made-in-range x) (said-back x (encodable p x h k))
+  codes-say = let e = encodable p x h k in rw (made-in-range x e) (said-back x e)
 
+  -- SJ can say them all, SI those with both zero
   pub codes-fit : situation .writes (codes-of x) ≡ true
   unfolding situation codes-of
   codes-fit =
       let e = encodable p x h k in
-      rw (fits (x .traffic .track .occupied) (e .occupied .1), fits (x .signals .held .towardsb) (e .heldb .1), fits (x .signals .held .towardsa) (e .helda .1))
+      rw (fits (x .traffic .track .occupied) (e .occupied .1), fits (x .signals .held .towardsb) (e .heldb .1), fits (x .signals .held .towardsa) (e .helda .1)) (or-turned (both-zero (codes-of x)) true)
 
 -- ---- read, then made
 module _ (c : Codes) (r : in-range c ≡ true) where
@@ -76,11 +80,14 @@ module _ (c : Codes) (r : in-range c ≡ true) where
     pub entry : (leb (c .entry .0) 1 ≡ true) × (leb (c .entry .1) 1 ≡ true)
     pub pending : leb (c .pending) 2 ≡ true
     pub stations : (leb (c .bilc) 3 ≡ true) × (leb (c .bslg) 3 ≡ true) × (leb (c .reminder) 3 ≡ true)
+    pub watch : (leb (c .mark) 1 ≡ true) × (leb (c .count) 10 ≡ true)
 
   pub codes-right : CodesRight
   unfolding in-range
   codes-right =
-      let a₁₂ = both _ (leb (c .reminder) 3) r in
+      let a₁₄ = both _ (leb (c .count) 10) r in
+      let a₁₃ = both _ (leb (c .mark) 1) (a₁₄ .0) in
+      let a₁₂ = both _ (leb (c .reminder) 3) (a₁₃ .0) in
       let a₁₁ = both _ (leb (c .bslg) 3) (a₁₂ .0) in
       let a₁₀ = both _ (leb (c .bilc) 3) (a₁₁ .0) in
       let a₉ = both _ (leb (c .pending) 2) (a₁₀ .0) in
@@ -100,6 +107,7 @@ module _ (c : Codes) (r : in-range c ≡ true) where
         entry = (a₇ .1, a₈ .1);
         pending = a₉ .1;
         stations = (a₁₀ .1, a₁₁ .1, a₁₂ .1);
+        watch = (a₁₃ .1, a₁₄ .1);
       }
 
   said-again : codes-of (said c) ≡ c
@@ -123,6 +131,7 @@ module _ (c : Codes) (r : in-range c ≡ true) where
         field-again (c .occupied),
         field-again (c .heldb),
         field-again (c .helda),
+        flag-again (c .mark) (k .watch .0),
       )
 
   pub codes-made-again : codes-of (situation-of c) ≡ c

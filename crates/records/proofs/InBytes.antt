@@ -1,26 +1,32 @@
 -- Records as the code has them, in bytes: they are what the forms write. Assumes nothing.
 use Prim.Native.Nat.{ℕ, zero, suc, _+_, _-_, _*_, _/_, _≤_, _<_}
 use mathlib.Core.Path.{_≡_, refl, sym, ap, _∙_}
-use mathlib.Core.Bool.{true}
-use mathlib.Core.List.{List, [], _∷_, _++_, append-nil}
+use mathlib.Core.Bool.{Bool, true, false}
+use mathlib.Core.List.{List, [], _∷_, _++_}
 use native.Mathlib.Omega.{arith}
 use lib.ListN.{length, take, drop, getD, length-drop}
 use lib.Seq.{take-all}
+use lib.Dec.{eqb}
+use borrow.Author.Tests.{eqb-true}
+use Rattle.words.specs.Words.{if_then_else_}
 use Rattle.rulebook.specs.Apply.{event}
 use Rattle.block.specs.declared.line.Plan.{Plan}
 use Rattle.block.specs.declared.event.Event.{Event}
 use Rattle.block.specs.declared.reading.Reading.{Reading}
-use Rattle.forms.specs.Compose.{each-written, section}
+use Rattle.forms.specs.declared.Letters.{Letters}
+use Rattle.forms.specs.Compose.{each-written, letters, section, named}
+use Rattle.forms.specs.Choices.{left-out}
 use Rattle.forms.specs.Whole.{accepted, whole}
 use Rattle.forms.specs.Taken.{value}
 use Rattle.forms.proofs.Reading.{both}
 use Rattle.forms.proofs.Fields.{section-law}
 use Rattle.forms.proofs.Whole as Whole
-use Rattle.records.specs.Situation.{Codes, situation}
+use Rattle.records.specs.Situation.{SI, SJ, Codes, codes-made, code-parts, body, without-watch, with-watch, situation}
 use Rattle.records.specs.Lists.{one-event, one-reading, event-at}
-use Rattle.records.specs.InBytes.{events-in, readings-in, codes-at, plan-at}
+use Rattle.records.specs.InBytes.{events-in, readings-in, codes-at, both-zero, plan-at}
 use Rattle.records.specs.Plan.{plan}
 use Rattle.records.proofs.RecordLaws.{plan-law, situation-law}
+use Rattle.records.proofs.SituationForms.{FieldsFit, fields-fit, SJ-says, written-as}
 
 pub events-written-in : (items : List Event) → events-in (each-written one-event items) ≡ items
 unfolding events-in
@@ -131,20 +137,32 @@ field-back : (w m : ℕ) (rest : List ℕ) → section w .writes m ≡ true → 
 unfolding value
 field-back w m rest h = rw (section-law w .back m rest h)
 
-pub codes-written-at : (c : Codes) (rest : List ℕ) → situation .writes c ≡ true → codes-at (situation .written c ++ rest) ≡ c
-unfolding situation codes-at
-codes-written-at c rest h =
-    let a = both (section 2 .writes (c .occupied)) _ h in
-    let b = both (section 2 .writes (c .heldb)) (section 2 .writes (c .helda)) (a .1) in
+-- the codes where a mark and a count follow, or nothing, which says zero
+codes-before : (m : Letters) (c : Codes) (rest : List ℕ) → FieldsFit c → getD rest 0 0 ≡ c .mark → getD rest 1 0 ≡ c .count
+    → codes-at (letters m (named codes-made code-parts (body (left-out 0))) .written c ++ rest) ≡ c
+unfolding codes-at
+codes-before m c rest f mark count =
     let ha = section 2 .written (c .helda) ++ rest in
     let hb = section 2 .written (c .heldb) ++ ha in
-    rw (field-back 2 (c .occupied) hb (a .0), field-back 2 (c .heldb) ha (b .0), field-back 2 (c .helda) rest (b .1))
+    rw (field-back 2 (c .occupied) hb (f .occupied), field-back 2 (c .heldb) ha (f .heldb), field-back 2 (c .helda) rest (f .helda), mark, count)
+
+pub codes-written-at : (c : Codes) → situation .writes c ≡ true → codes-at (situation .written c) ≡ c
+codes-written-at c h = ap codes-at (written-as c h) ∙ by (both-zero c) refl
+  where
+    f : FieldsFit c
+    f = fields-fit c (SJ-says c h)
+
+    by : (v : Bool) → both-zero c ≡ v → codes-at (if v then without-watch .written c else with-watch .written c) ≡ c
+    by true e =
+        let z = both (eqb (c .mark) 0) (eqb (c .count) 0) e in
+        codes-before SI c [] f (sym (eqb-true (c .mark) 0 (z .0))) (sym (eqb-true (c .count) 0 (z .1)))
+    by false e = codes-before SJ c (c .mark ∷ c .count ∷ []) f refl refl
 
 -- a record by itself
 pub codes-alone : (s : List ℕ) (c : Codes) → whole situation s ≡ accepted c → codes-at s ≡ c
 codes-alone s c h =
     let o = Whole.one-form (situation-law .lawful) s c h in
-    ap codes-at (sym (o .1) ∙ sym (append-nil _)) ∙ codes-written-at c [] (o .0)
+    ap codes-at (sym (o .1)) ∙ codes-written-at c (o .0)
 
 pub plan-alone : (s : List ℕ) (p : Plan) → whole plan s ≡ accepted p → plan-at s ≡ p
 unfolding plan

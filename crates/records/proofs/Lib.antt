@@ -1,8 +1,10 @@
 pub mod RecordLaws
 pub mod QuestionLaws
+pub mod SituationForms
 pub mod InBytes
 pub mod Fronts
 pub mod Records
+pub mod SituationTaken
 pub mod SoundParts
 pub mod CodeByCode
 pub mod CodesLaws

@@ -2,7 +2,7 @@
 use Prim.Native.Nat.{ℕ, _+_, _-_, _*_, _≤_}
 use mathlib.Core.Path.{_≡_, refl, sym, ap, _∙_}
 use mathlib.Core.Bool.{true}
-use mathlib.Core.List.{List, [], _∷_, _++_, append-nil}
+use mathlib.Core.List.{List, [], _∷_, _++_}
 use native.Mathlib.Omega.{arith}
 use borrow.Author.Tests.{leb-true}
 use lib.ListN.{length, take, drop, getD, length-drop}
@@ -19,8 +19,9 @@ use Rattle.records.specs.Situation.{situation}
 use Rattle.records.specs.Lists.{one-event, events, one-reading, readings, answer-length}
 use Rattle.records.specs.Question.{Parts, question}
 use Rattle.records.specs.Laid.{si-at, ev-at, rd-at, ln-at}
-use Rattle.records.specs.InBytes.{part, plan-at, codes-at, events-in, readings-in}
+use Rattle.records.specs.InBytes.{part, plan-at, codes-at, situation-size, events-in, readings-in}
 use Rattle.records.proofs.QuestionLaws.{one-form}
+use Rattle.records.proofs.SituationForms.{size-is}
 use Rattle.records.proofs.InBytes.{events-written-in, readings-written-in, codes-written-at}
 
 -- ---- one record after n bytes
@@ -97,8 +98,7 @@ module _ (s : List ℕ) (v : Parts) (h : whole question s ≡ accepted v) where
 
   pub situation-lies : codes-at (part (si-at v) (ev-at v) s) ≡ v .1 .0
   situation-lies =
-      ap codes-at (lies s (situation .written (v .1 .0)) from-ev (si-at v) at-si ∙ sym (append-nil _))
-      ∙ codes-written-at (v .1 .0) [] (fits .situation)
+      ap codes-at (lies s (situation .written (v .1 .0)) from-ev (si-at v) at-si) ∙ codes-written-at (v .1 .0) (fits .situation)
 
   pub events-lie : part (ev-at v + 3) (rd-at v) s ≡ each-written one-event (v .1 .1 .0)
   unfolding events
@@ -133,18 +133,17 @@ module _ (s : List ℕ) (v : Parts) (h : whole question s ≡ accepted v) where
 
   pub record Long : Type 0 where
     pub si : si-at v ≡ 4
-    pub ev : ev-at v ≡ 25
-    pub rd : rd-at v ≡ 28 + 2 * length (v .1 .1 .0)
-    pub ln : ln-at v ≡ 31 + 2 * length (v .1 .1 .0) + 3 * length (v .1 .1 .1 .0)
-    pub end : length s ≡ 34 + 2 * length (v .1 .1 .0) + 3 * length (v .1 .1 .1 .0)
+    pub ev : ev-at v ≡ 4 + situation-size (v .1 .0)
+    pub rd : rd-at v ≡ 7 + situation-size (v .1 .0) + 2 * length (v .1 .1 .0)
+    pub ln : ln-at v ≡ 10 + situation-size (v .1 .0) + 2 * length (v .1 .1 .0) + 3 * length (v .1 .1 .1 .0)
+    pub end : length s ≡ 13 + situation-size (v .1 .0) + 2 * length (v .1 .1 .0) + 3 * length (v .1 .1 .1 .0)
 
   lb-long : length (plan .written (v .0)) ≡ 4
   unfolding plan
   lb-long = refl
 
-  si-long : length (situation .written (v .1 .0)) ≡ 21
-  unfolding situation
-  si-long = refl
+  si-long : length (situation .written (v .1 .0)) ≡ situation-size (v .1 .0)
+  si-long = size-is (v .1 .0) (fits .situation)
 
   ev-long : length (events .written (v .1 .1 .0)) ≡ 3 + 2 * length (v .1 .1 .0)
   unfolding events

@@ -1,16 +1,18 @@
 -- The law of each record, put together as its definition is. Assumes nothing.
+use Prim.Native.Nat.{ℕ}
 use mathlib.Core.Path.{refl}
 use mathlib.Core.List.{[], _∷_}
 use Rattle.forms.specs.Form.{Form}
 use Rattle.forms.specs.Compose.{byte, _⊗_, named}
 use Rattle.forms.specs.Laws.{Lawful, Lettered}
-use Rattle.forms.proofs.Simple.{byte-law, named-law}
+use Rattle.forms.proofs.Simple.{byte-law, left-out-law, named-law}
 use Rattle.forms.proofs.Sequence.{sequence-law}
 use Rattle.forms.proofs.Lettered.{letters-law}
+use Rattle.forms.proofs.Choice.{choice-law}
 use Rattle.forms.proofs.Lists.{counted-law}
 use Rattle.forms.proofs.Fields.{section-law}
 use Rattle.records.specs.Plan.{LB, plan-of, plan-parts, plan}
-use Rattle.records.specs.Situation.{SI, codes-made, code-parts, body, pair, situation}
+use Rattle.records.specs.Situation.{SI, SJ, codes-made, code-parts, body, pair, situation}
 use Rattle.records.specs.Lists.{EV, RD, LN, event-of, event-parts, one-event, events, reading-of, reading-parts, one-reading, readings, answer-length}
 
 infixr 30 _&_
@@ -27,16 +29,14 @@ plan-law = letters-law LB plan-body-law
 pub pair-law : Lawful pair
 pair-law = byte-law & byte-law
 
-pub body-law : Lawful body
-body-law =
-    byte-law & pair-law & pair-law & pair-law & pair-law & byte-law & byte-law & byte-law & byte-law & section-law 2 & section-law 2 & section-law 2
+pub codes-law : {each : Form ℕ} → Lawful each → Lawful (named codes-made code-parts (body each))
+codes-law L =
+    named-law codes-made code-parts (λ v. refl) (λ c. refl)
+    (byte-law & pair-law & pair-law & pair-law & pair-law & byte-law & byte-law & byte-law & byte-law & section-law 2 & section-law 2 & section-law 2 & L & L)
 
-pub codes-law : Lawful (named codes-made code-parts body)
-codes-law = named-law codes-made code-parts (λ v. refl) (λ c. refl) body-law
-
-pub situation-law : Lettered (SI ∷ []) situation
+pub situation-law : Lettered (SI ∷ SJ ∷ []) situation
 unfolding situation
-situation-law = letters-law SI codes-law
+situation-law = choice-law (letters-law SI (codes-law (left-out-law 0))) (letters-law SJ (codes-law byte-law)) refl
 
 pub event-law : Lawful one-event
 event-law = named-law event-of event-parts (λ v. refl) (λ e. refl) (byte-law & byte-law)

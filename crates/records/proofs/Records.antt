@@ -3,17 +3,17 @@ use Prim.Native.Nat.{ℕ, _+_}
 use mathlib.Core.Path.{_≡_}
 use mathlib.Core.List.{List}
 use Rattle.forms.specs.Form.{Form}
-use Rattle.forms.specs.Compose.{byte, _⊗_, section}
+use Rattle.forms.specs.Compose.{byte, _⊗_, section, named}
 use Rattle.forms.specs.Laws.{Lawful}
 use Rattle.forms.specs.Taken.{taken}
 use Rattle.forms.proofs.Simple.{byte-law}
 use Rattle.forms.proofs.Fields.{section-law}
 use Rattle.forms.proofs.Sizes.{Bytes, Takes, byte-takes, section-takes, sequence-takes, named-takes}
 use Rattle.records.specs.Plan.{LB, plan-of, plan-parts, plan}
-use Rattle.records.specs.Situation.{SI, pair, body, codes-made, code-parts, situation}
+use Rattle.records.specs.Situation.{pair, body, codes-made, code-parts}
 use Rattle.records.specs.Lists.{EV, RD, LN, event-of, event-parts, one-event, events, reading-of, reading-parts, one-reading, readings, answer-length}
 use Rattle.records.specs.Sizes.{fixed, counted}
-use Rattle.records.proofs.RecordLaws.{pair-law, event-law, reading-law, plan-body-law, codes-law}
+use Rattle.records.proofs.RecordLaws.{pair-law, event-law, reading-law, plan-body-law}
 use Rattle.records.proofs.Fronts.{fixed-taken, list-taken}
 
 infixr 30 _&&_
@@ -33,13 +33,14 @@ pub plan-taken : (s : List ℕ) → Bytes s → taken plan s ≡ fixed LB 2 s
 unfolding plan
 plan-taken s b = fixed-taken LB plan-body-law (named-takes plan-of plan-parts (a-byte && byte-takes)) s b
 
-body-takes : Takes 19 body
-body-takes =
-    a-byte && a-pair && a-pair && a-pair && a-pair && a-byte && a-byte && a-byte && a-byte && a-field && a-field && section-takes 2
+-- the codes up to the sections held towards A, and two more of so many bytes each
+abbrev codes-size : ℕ → ℕ
+codes-size n = 1 + (2 + (2 + (2 + (2 + (1 + (1 + (1 + (1 + (2 + (2 + (2 + (n + n))))))))))))
 
-pub situation-taken : (s : List ℕ) → Bytes s → taken situation s ≡ fixed SI 19 s
-unfolding situation
-situation-taken s b = fixed-taken SI codes-law (named-takes codes-made code-parts body-takes) s b
+pub codes-takes : {each : Form ℕ} {n : ℕ} → Lawful each → Takes n each → Takes (codes-size n) (named codes-made code-parts (body each))
+codes-takes L Z =
+    named-takes codes-made code-parts
+    (a-byte && a-pair && a-pair && a-pair && a-pair && a-byte && a-byte && a-byte && a-byte && a-field && a-field && a-field && (L, Z) && Z)
 
 event-takes : Takes 2 one-event
 event-takes = named-takes event-of event-parts (a-byte && byte-takes)

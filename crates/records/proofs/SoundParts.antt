@@ -12,11 +12,12 @@ use Rattle.sections.specs.Sections.{_belongs-to_, sections-up-to}
 use Rattle.words.proofs.Tests.{and-at, holds-is, not-equal}
 use Rattle.block.specs.Line.{isPlan}
 use Rattle.rulebook.specs.Sound as block
-use Rattle.rulebook.specs.Sound.{stationSound, annulled-is-none, routed-is-open, normal-not-annulled, special-not-AFBLI, link-up-agrees, link-down-apart, pending-sound, may-ask, stationsSound, held-sound, setsSound, sound}
+use Rattle.rulebook.specs.Sound.{stationSound, annulled-is-none, routed-is-open, normal-not-annulled, special-not-AFBLI, link-up-agrees, link-down-apart, pending-sound, may-ask, held-sound, sound}
 use Rattle.block.specs.declared.line.Plan.{Plan}
 use Rattle.block.specs.declared.line.Direction.the-variants.{TowardsA, TowardsB}
-use Rattle.rulebook.specs.Situation.{Station}
-use Rattle.rulebook.specs.Situation.{Situation}
+use Rattle.rulebook.specs.Situation.{Station, Situation, any-exit-route}
+use Rattle.rulebook.proofs.SoundnessKept.{parts}
+use Rattle.rulebook.proofs.WatchKept.{facts}
 
 -- the sets hold sections of the line, and no exit signal is held
 pub record SoundSets (p : Plan) (x : Situation) : Type 0 where
@@ -28,8 +29,7 @@ pub record SoundSets (p : Plan) (x : Situation) : Type 0 where
 
 pub sound-sets : (p : Plan) (x : Situation) → T (sound p x) → SoundSets p x
 sound-sets p x k =
-    let a = and-at (stationsSound x) (setsSound p x) k in
-    let f = and-at (sections-up-to (p .sections) (x .traffic .track .occupied) and held-sound p x TowardsB) (held-sound p x TowardsA) (a .1) in
+    let f = and-at (sections-up-to (p .sections) (x .traffic .track .occupied) and held-sound p x TowardsB) (held-sound p x TowardsA) (parts p x k .sets) in
     let g = and-at (sections-up-to (p .sections) (x .traffic .track .occupied)) (held-sound p x TowardsB) (f .0) in
     let i = and-at (sections-up-to (p .sections) (x .signals .held .towardsb)) (not (1 belongs-to x .signals .held .towardsb)) (g .1) in
     let j = and-at (sections-up-to (p .sections) (x .signals .held .towardsa)) (not (p .sections belongs-to x .signals .held .towardsa)) (f .1) in
@@ -49,6 +49,7 @@ pub record Encodable (x : Situation) : Type 0 where
   pub occupied : in-a-field (x .traffic .track .occupied)
   pub heldb : in-a-field (x .signals .held .towardsb)
   pub helda : in-a-field (x .signals .held .towardsa)
+  pub count : x .traffic .track .watch .count ≤ 10
 
 station-encodable : (t : Station) → T (stationSound t) → one-value-each t
 station-encodable t h =
@@ -77,8 +78,8 @@ encodable p x h k =
     let n₂ = and-at (leb 2 (p .sections) and leb (p .sections) 16) (leb 1 (p .frontier)) (n₁ .0) in
     let n₃ = and-at (leb 2 (p .sections)) (leb (p .sections) 16) (n₂ .0) in
     let n = leb-true (p .sections) 16 (holds-is _ (n₃ .1)) in
-    let a = and-at (stationsSound x) (setsSound p x) k in
-    let b = and-at (stationSound (x .traffic .own) and stationSound (x .traffic .other) and link-up-agrees x and link-down-apart x) (pending-sound x) (a .0) in
+    let a = parts p x k in
+    let b = and-at (stationSound (x .traffic .own) and stationSound (x .traffic .other) and link-up-agrees x and link-down-apart x) (pending-sound x) (a .stations) in
     let c = and-at (stationSound (x .traffic .own) and stationSound (x .traffic .other) and link-up-agrees x) (link-down-apart x) (b .0) in
     let d = and-at (stationSound (x .traffic .own) and stationSound (x .traffic .other)) (link-up-agrees x) (c .0) in
     let e = and-at (stationSound (x .traffic .own)) (stationSound (x .traffic .other)) (d .0) in
@@ -92,4 +93,5 @@ encodable p x h k =
       occupied = set-encodable (p .sections) (x .traffic .track .occupied) n (f .occupied);
       heldb = set-encodable (p .sections) (x .signals .held .towardsb) n (f .heldb);
       helda = set-encodable (p .sections) (x .signals .held .towardsa) n (f .helda);
+      count = facts (x .traffic .track) (any-exit-route x) (a .watch) .low;
     }

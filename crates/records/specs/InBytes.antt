@@ -1,14 +1,18 @@
 -- A reader need not believe this file: records as the code has them, in bytes. proofs/InBytes shows that they are what the forms write.
 use Prim.Native.Nat.{ℕ, _-_}
+use mathlib.Core.Bool.{Bool}
 use mathlib.Core.List.{List, [], _∷_}
 use lib.ListN.{take, drop, getD}
+use lib.Dec.{eqb}
+use Rattle.words.specs.Words.{_and_, if_then_else_}
 use Rattle.rulebook.specs.Apply.{event}
 use Rattle.block.specs.declared.line.Plan.{Plan}
 use Rattle.block.specs.declared.event.Event.{Event}
 use Rattle.block.specs.declared.reading.Reading.{Reading}
-use Rattle.forms.specs.Compose.{section}
+use Rattle.forms.specs.declared.Letters.{Letters}
+use Rattle.forms.specs.Compose.{byte, letters, section, named}
 use Rattle.forms.specs.Taken.{value}
-use Rattle.records.specs.Situation.{Codes}
+use Rattle.records.specs.Situation.{SI, SJ, Codes, codes-made, code-parts, body}
 
 -- events of two bytes, one after the other
 unfoldable pub events-in : List ℕ → List Event
@@ -27,7 +31,7 @@ readings-in (k ∷ a ∷ v ∷ s) = record { kind = k; argument = a; value = v }
 abbrev pub field-at : ℕ → List ℕ → ℕ → ℕ
 field-at width s at = value 0 (section width) (drop at s)
 
--- the codes of a record SI
+-- the codes of a record SI or SJ: past the end of SI, mark and count are zero
 unfoldable pub codes-at : List ℕ → Codes
 codes-at s = record {
   link = getD s 2 0;
@@ -42,7 +46,24 @@ codes-at s = record {
   occupied = field-at 2 s 15;
   heldb = field-at 2 s 17;
   helda = field-at 2 s 19;
+  mark = getD s 21 0;
+  count = getD s 22 0;
 }
+
+-- ---- SI where mark and count are both zero, else SJ
+abbrev pub both-zero : Codes → Bool
+both-zero c = eqb (c .mark) 0 and eqb (c .count) 0
+
+-- how many bytes the record has, with its letters
+unfoldable pub situation-size : Codes → ℕ
+situation-size c = if both-zero c then 21 else 23
+
+abbrev pub situation-letters : Codes → Letters
+situation-letters c = if both-zero c then SI else SJ
+
+-- as many of these bytes as the record has are the record
+unfoldable pub situation-bytes : Codes → List ℕ
+situation-bytes c = letters (situation-letters c) (named codes-made code-parts (body byte)) .written c
 
 -- the plan of a record LB
 abbrev pub plan-at : List ℕ → Plan

@@ -1,5 +1,6 @@
 -- "SI, 19 bytes": "link; orientation A, B; annulment A, B; exit A, B; entry A, B; pending; BILC, BSLG, reminder as bits (1 A, 2 B); occupied,
 -- held towards B, held towards A, each two bytes, low byte first, bit k-1 for section k." The situation is kept as A sees it.
+-- 02, Req 02: "Record SJ is SI with the mark and the count added, a byte each; SI means both zero." "20 for SJ with both zero."
 use Prim.Native.Nat.{ℕ, _+_, _*_, _/_, _%_}
 use mathlib.Core.Bool.{Bool, true, false}
 use lib.Dec.{eqb, leb}
@@ -13,9 +14,13 @@ use Rattle.block.specs.declared.codes.Pending.{Pending}
 use Rattle.forms.specs.declared.Letters.{Letters}
 use Rattle.forms.specs.Form.{Form}
 use Rattle.forms.specs.Compose.{byte, _⊗_, letters, section, named}
+use Rattle.forms.specs.Choices.{left-out, _or-else_}
 
 abbrev pub SI : Letters
 SI = record { first = 83; second = 73 }
+
+abbrev pub SJ : Letters
+SJ = record { first = 83; second = 74 }
 
 -- a code of A and one of B
 abbrev pub Pair : Type 0
@@ -34,13 +39,15 @@ pub record Codes : Type 0 where
   pub occupied : ℕ
   pub heldb : ℕ
   pub helda : ℕ
+  pub mark : ℕ
+  pub count : ℕ
 
 -- ---- the record
 abbrev pub CodeParts : Type 0
-CodeParts = ℕ × (Pair × (Pair × (Pair × (Pair × (ℕ × (ℕ × (ℕ × (ℕ × (ℕ × (ℕ × ℕ))))))))))
+CodeParts = ℕ × (Pair × (Pair × (Pair × (Pair × (ℕ × (ℕ × (ℕ × (ℕ × (ℕ × (ℕ × (ℕ × (ℕ × ℕ))))))))))))
 
 abbrev pub codes-made : CodeParts → Codes
-codes-made (l, (o, (a, (x, (e, (p, (i, (g, (r, (k, (hb, ha))))))))))) = record {
+codes-made (l, (o, (a, (x, (e, (p, (i, (g, (r, (k, (hb, (ha, (m, n))))))))))))) = record {
   link = l;
   orientation = o;
   annulment = a;
@@ -53,19 +60,31 @@ codes-made (l, (o, (a, (x, (e, (p, (i, (g, (r, (k, (hb, ha))))))))))) = record {
   occupied = k;
   heldb = hb;
   helda = ha;
+  mark = m;
+  count = n;
 }
 
 abbrev pub code-parts : Codes → CodeParts
-code-parts c = (c .link, (c .orientation, (c .annulment, (c .exit, (c .entry, (c .pending, (c .bilc, (c .bslg, (c .reminder, (c .occupied, (c .heldb, c .helda)))))))))))
+code-parts c = (c .link, (c .orientation, (c .annulment, (c .exit, (c .entry, (c .pending, (c .bilc, (c .bslg, (c .reminder, (c .occupied, (c .heldb, (c .helda, (c .mark, c .count)))))))))))))
 
 abbrev pub pair : Form Pair
 pair = byte ⊗ byte
 
-abbrev pub body : Form CodeParts
-body = byte ⊗ pair ⊗ pair ⊗ pair ⊗ pair ⊗ byte ⊗ byte ⊗ byte ⊗ byte ⊗ section 2 ⊗ section 2 ⊗ section 2
+-- the bytes in their order; mark and count, the last two, as the record has them
+abbrev pub body : Form ℕ → Form CodeParts
+body mark-and-count = byte ⊗ pair ⊗ pair ⊗ pair ⊗ pair ⊗ byte ⊗ byte ⊗ byte ⊗ byte ⊗ section 2 ⊗ section 2 ⊗ section 2 ⊗ mark-and-count ⊗ mark-and-count
 
+-- "SI means both zero"
+abbrev pub without-watch : Form Codes
+without-watch = letters SI (named codes-made code-parts (body (left-out 0)))
+
+-- "the mark and the count added, a byte each"
+abbrev pub with-watch : Form Codes
+with-watch = letters SJ (named codes-made code-parts (body byte))
+
+-- SJ exactly where SI cannot say it; SJ with both zero is read as nothing: 20
 unfoldable pub situation : Form Codes
-situation = letters SI (named codes-made code-parts body)
+situation = without-watch or-else with-watch
 
 -- ---- the codes of a situation
 -- "as bits (1 A, 2 B)"
@@ -90,6 +109,8 @@ codes-of x = record {
   occupied = field-of (x .traffic .track .occupied);
   heldb = field-of (x .signals .held .towardsb);
   helda = field-of (x .signals .held .towardsa);
+  mark = flag (x .traffic .track .watch .mark);
+  count = x .traffic .track .watch .count;
 }
 
 -- ---- the situation that codes say
@@ -103,6 +124,7 @@ in-range c =
     and leb (c .entry .0) 1 and leb (c .entry .1) 1
     and leb (c .pending) 2
     and leb (c .bilc) 3 and leb (c .bslg) 3 and leb (c .reminder) 3
+    and leb (c .mark) 1 and leb (c .count) 10
 
 abbrev pub orientation-of : ℕ → Orientation
 orientation-of code = record { out = eqb code 1; inward = eqb code 2 }
@@ -144,7 +166,7 @@ said c = record {
     own = station-said (λ v. v .0) bit-of-A c;
     other = station-said (λ v. v .1) bit-of-B c;
     pending = pending-of (c .pending);
-    track = record { occupied = sections-of (c .occupied) };
+    track = record { occupied = sections-of (c .occupied); watch = record { mark = eqb (c .mark) 1; count = c .count } };
   };
   signals = record { held = record { towardsb = sections-of (c .heldb); towardsa = sections-of (c .helda) } };
 }

@@ -9,7 +9,7 @@ use super::lists::take_readings;
 use super::plan::take_plan;
 use super::situation::take_situation;
 
-// Whether the bytes are the records of a question, and where SI, EV, RD and LN begin; else zeros.
+// Whether the bytes are the records of a question, and where SI or SJ, EV, RD and LN begin; else zeros.
 pub struct Laid {
     pub there: bool,
     pub si: usize,

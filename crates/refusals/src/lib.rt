@@ -4,8 +4,8 @@ ghost use mathlib.Core.Path.{_≡_};
 ghost use mathlib.Core.Bool.{not};
 ghost use Rattle.words.specs.Words.{_and_, if_then_else_};
 ghost use Rattle.refusals.specs.InOrder.{check};
-ghost use Rattle.rulebook.specs.Situation.{_is-in, _has-exit-route, track-clear};
-ghost use Rattle.rulebook.specs.Table.{Sobb, Cobb, Afbli, Afble, Dafbl, Bilc, Dilc, Bslg, BslgOff, Bslb, BslbOff, Reminder, ReminderOff, ExitNormal, ExitSpecial, ExitReleased, Entry, EntryReleased, Occupied, Freed, LinkLost, LinkRestored};
+ghost use Rattle.rulebook.specs.Situation.{_is-in, _has-exit-route, track-free};
+ghost use Rattle.rulebook.specs.Table.{Sobb, Cobb, Afbli, Afble, Dafbl, Bilc, Dilc, Bslg, BslgOff, Bslb, BslbOff, Reminder, ReminderOff, ExitNormal, ExitSpecial, ExitReleased, Entry, EntryReleased, Occupied, Freed, LinkLost, LinkRestored, Second};
 ghost use Rattle.rulebook.specs.Apply.{refuses};
 ghost use Rattle.situation.specs.Packed.{unpacked};
 use block::event::Spot;
@@ -148,16 +148,16 @@ pub fn reminder_off_refusal(x: Situation, at: Spot) -> u8
     refuse(ALREADY, !own.has_reminder(), 0)
 }
 
-// Own is in and the line not free: 13 for an occupied section, then 15 for an exit route at the other station.
+// Own is in and the line not free: 13 for an occupied section or a running count, then 15 for an exit route at the other station.
 fn check_line(r: u8, x: Situation) -> u8
-    ensures { λ s. ⌜ s ≡ check (check r 13 (unpacked x .traffic .own is-in and not (track-clear (unpacked x .traffic .track)))) 15 (unpacked x .traffic .own is-in and unpacked x .traffic .other has-exit-route) ⌝ }
+    ensures { λ s. ⌜ s ≡ check (check r 13 (unpacked x .traffic .own is-in and not (track-free (unpacked x .traffic .track)))) 15 (unpacked x .traffic .own is-in and unpacked x .traffic .other has-exit-route) ⌝ }
 {
     let own = x.own();
     let other = x.other();
     let inward = own.is_in();
-    let occupied = inward & !x.track_clear();
+    let not_free = inward & !x.track_free();
     let routed = inward & other.routed();
-    let r = check(r, OCCUPIED, occupied);
+    let r = check(r, OCCUPIED, not_free);
     check(r, OTHER_ROUTE, routed)
 }
 
@@ -234,4 +234,11 @@ pub fn link_restored_refusal(x: Situation, at: Spot) -> u8
     ensures { λ r. ⌜ r ≡ refuses LinkRestored at (unpacked x) ⌝ }
 {
     refuse(ALREADY, x.linked(), 0)
+}
+
+// A second is always accepted.
+pub fn second_refusal(x: Situation, at: Spot) -> u8
+    ensures { λ r. ⌜ r ≡ refuses Second at (unpacked x) ⌝ }
+{
+    0
 }

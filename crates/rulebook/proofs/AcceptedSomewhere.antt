@@ -5,7 +5,7 @@ use mathlib.Core.Path.{subst}
 use lib.Dec.{T, eqb, eqb→eq}
 use Rattle.words.specs.Words.{_and_, if_then_else_}
 use Rattle.words.proofs.Tests.{and-at}
-use Rattle.rulebook.specs.Situation.{Kept, fresh, blank, out, inward, AFBLI, normal, _becomes_, _annulled-by_, _with-exit_, withEntry, withBilc, withBslg, withReminder, withLink, withOwn, withStations, withPending, withTrack, with-held}
+use Rattle.rulebook.specs.Situation.{Kept, fresh, blank, out, inward, AFBLI, normal, _becomes_, _annulled-by_, _with-exit_, withEntry, withBilc, withBslg, withReminder, withLink, withOwn, withStations, withPending, withTrack, no-watch, with-held}
 use Rattle.rulebook.specs.Sound.{sound}
 use Rattle.rulebook.specs.Table.{Kind, Cobb, Dafbl, Dilc, BslgOff, BslbOff, ReminderOff, ExitNormal, ExitSpecial, ExitReleased, EntryReleased, Freed, LinkRestored, table, kind-of}
 use Rattle.rulebook.specs.Apply.{event, applied, stepped, acted, refusal-at}
@@ -34,7 +34,7 @@ from c =
     if eqb c (ExitSpecial .code) then towards-B else
     if eqb c (ExitReleased .code) then withOwn (blank becomes out with-exit normal) towards-B else
     if eqb c (EntryReleased .code) then withOwn (withEntry true blank) fresh else
-    if eqb c (Freed .code) then withTrack (record { occupied = 4 }) fresh else
+    if eqb c (Freed .code) then withTrack (record { occupied = 4; watch = no-watch }) fresh else
     if eqb c (LinkRestored .code) then withLink false fresh else
     fresh
 

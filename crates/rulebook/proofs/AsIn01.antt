@@ -7,7 +7,7 @@ use borrow.Author.Tests.{eqb-true}
 use lib.Dec.{T, eqb}
 use Rattle.words.specs.Words.{_and_, _or_, if_then_else_}
 use Rattle.words.proofs.Tests.{and-at, fails-is}
-use Rattle.rulebook.specs.Situation.{Situation, Kept, seen-from, kept-from, _is-in, _is-none, _annulled, _under-AFBLE, _has-exit-route, track-clear, line-free}
+use Rattle.rulebook.specs.Situation.{Situation, Kept, seen-from, kept-from, _is-in, _is-none, _annulled, _under-AFBLE, _has-exit-route, track-free, line-free}
 use Rattle.rulebook.specs.Checks.{Row, ⟶_, _┃_, _when_, enough-when_, refusal}
 use Rattle.rulebook.specs.Place.{place}
 use Rattle.rulebook.specs.Table.{Kind, ExitNormal, ExitSpecial, table, kind-of}
@@ -61,8 +61,8 @@ module _ (at : Spot) (x : Situation) where
 
   last : (x .traffic .own has-exit-route) ≡ false → not (x .traffic .link) ≡ false
       → (if x .traffic .own is-in and not (line-free x) then 13 else 0)
-      ≡ number-in-01 (if x .traffic .own is-in and not (track-clear (x .traffic .track)) then 13 else if x .traffic .own is-in and x .traffic .other has-exit-route then 15 else 0)
-  last = last-check (x .traffic .own is-in) (x .traffic .link) (track-clear (x .traffic .track)) (x .traffic .own has-exit-route) (x .traffic .other has-exit-route)
+      ≡ number-in-01 (if x .traffic .own is-in and not (track-free (x .traffic .track)) then 13 else if x .traffic .own is-in and x .traffic .other has-exit-route then 15 else 0)
+  last = last-check (x .traffic .own is-in) (x .traffic .link) (track-free (x .traffic .track)) (x .traffic .own has-exit-route) (x .traffic .other has-exit-route)
 
   normal-refused : refuses (kind-in-01 ExitNormal) at x ≡ number-in-01 (refuses ExitNormal at x)
   normal-refused =

@@ -1,4 +1,5 @@
--- An accepted event does what it says: it was not so before, and it is so after; so it changes the situation. Assumes nothing.
+-- An accepted event, but a second that passes, does what it says: it was not so before, and it is so after; so it changes the situation.
+-- Assumes nothing.
 use Prim.Native.Nat.{ℕ, _<_}
 use mathlib.Core.Bool.{Bool, true, false, not}
 use mathlib.Core.Path.{_≡_, refl, sym, ap, subst, _∙_}
@@ -30,13 +31,14 @@ use Rattle.rulebook.proofs.Every.{everywhere-at}
 use Rattle.rulebook.proofs.Accepted.{passed}
 use Rattle.rulebook.proofs.Placed.{Placed, placed}
 use Rattle.rulebook.proofs.SoundnessKept.{parts, seen-sound}
-use Rattle.rulebook.specs.Laws.{deeds, says, so-at, EventsDo, EventsChange}
+use Rattle.rulebook.specs.Laws.{a-second-passed, deeds, says, so-at, EventsDo, EventsChange}
 
 -- an event of the kind that is accepted, as own sees it
 pub record Right (k : Kind) (at : Spot) (x : Situation) : Type 0 where
   pub passes : T (eqb (refuses k at x) 0)
   pub stations : T (stationsSound x)
   pub placed : Placed (at .plan) (k .argument) (at .section) (at .direction)
+  pub acts : T (not (a-second-passed (k .code)))
 
 abbrev so : Kind → Spot → Situation → Bool
 so k = says (k .code) deeds
@@ -158,7 +160,7 @@ all-do = (
                                           (λ at x ok. (passed (LinkLost .row (place at x) x) tt (ok .passes) .0, refl)),
                                           (
                                             (λ at x ok. (passed (LinkRestored .row (place at x) x) tt (ok .passes) .0, refl)),
-                                            tt,
+                                            ((λ at x ok. absurd (ok .acts)), tt),
                                           ),
                                         ),
                                       ),
@@ -187,7 +189,7 @@ seen-twice : (s : Name) (x : Situation) → seen-from s (kept-from s x) ≡ x
 seen-twice StationA x = refl
 seen-twice StationB x = refl
 
-module _ (q : Plan) (plan : T (isPlan q)) (x : Kept) (e : Event) (t : T (sound q x)) where
+module _ (q : Plan) (plan : T (isPlan q)) (x : Kept) (e : Event) (t : T (sound q x)) (acts : T (not (a-second-passed (e .code)))) where
   abbrev at : Spot
   at = spot q e
 
@@ -201,7 +203,7 @@ module _ (q : Plan) (plan : T (isPlan q)) (x : Kept) (e : Event) (t : T (sound q
   unfolding refusal-at led-at
   reached-done ok right a =
       let k : Kind = kind-of (e .code) in
-      let does = at-code Does all-do (e .code) ok at seen (record { passes = a; stations = parts q seen (seen-sound q (at .own) x t) .stations; placed = placed q (plan-short q plan) (k .argument) (e .argument) right }) in
+      let does = at-code Does all-do (e .code) ok at seen (record { passes = a; stations = parts q seen (seen-sound q (at .own) x t) .stations; placed = placed q (plan-short q plan) (k .argument) (e .argument) right; acts = subst (λ (c : ℕ). T (not (a-second-passed c))) (sym (its-code (e .code) ok)) acts }) in
       let named : (y : Situation) → so k at y ≡ says (e .code) deeds at y = λ y. ap (λ (c : ℕ). says c deeds at y) (its-code (e .code) ok) in
       (sym (named seen) ∙ does .0, ap (says (e .code) deeds at) (seen-twice (at .own) (leads k at seen)) ∙ sym (named (leads k at seen)) ∙ does .1)
 

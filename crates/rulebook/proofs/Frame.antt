@@ -9,20 +9,53 @@ use Rattle.words.proofs.Tests.{and-at}
 use Rattle.sections.specs.Sections.{_with-section_, _without-section_}
 use Rattle.rulebook.specs.Checks.{effect}
 use Rattle.rulebook.specs.Place.{Place}
-use Rattle.rulebook.specs.Situation.{Signals, Situation, own-sobb, withHeld, held-towards, with-held-towards}
-use Rattle.rulebook.specs.Table.{Kind, Sobb, Bslb, BslbOff, Occupied, Freed, table, section, signal, kind-of}
+use Rattle.rulebook.specs.Situation.{Track, Signals, Situation, own-sobb, no-watch, withWatch, withHeld, held-towards, with-held-towards, any-exit-route, _has-exit-route}
+use Rattle.rulebook.specs.Events.{watch-taken, still-occupied, watch-freed, watch-lowered}
+use Rattle.rulebook.specs.Table.{Kind, Sobb, Bslb, BslbOff, ExitNormal, ExitSpecial, ExitReleased, Occupied, Freed, Second, table, section, signal, kind-of}
 use Rattle.block.specs.declared.codes.Pending.{Pending}
 use Rattle.rulebook.proofs.InTable.{All, Known, each-all, by-equation, by-test, at-code}
 
--- ---- a section occupied, freed: nothing else writes the track
-abbrev pub of-section : ℕ → Bool
-of-section code = eqb code (Occupied .code) or eqb code (Freed .code)
+-- ---- what an event does to the track and to the exit routes: nothing else writes them
+pub data Touch : Type 0 where
+  sets-route : Touch
+  releases-route : Touch
+  takes : Touch
+  frees : Touch
+  lowers : Touch
+  leaves : Touch
 
-abbrev pub occupied-after : ℕ → ℕ → ℕ → ℕ
-occupied-after code k m = if eqb code (Occupied .code) then m with-section k else m without-section k
+abbrev pub touch : ℕ → Touch
+touch code =
+    if eqb code (ExitNormal .code) or eqb code (ExitSpecial .code) then sets-route else
+    if eqb code (ExitReleased .code) then releases-route else
+    if eqb code (Occupied .code) then takes else
+    if eqb code (Freed .code) then frees else
+    if eqb code (Second .code) then lowers else
+    leaves
 
-abbrev pub track-after : ℕ → Place → Situation → ℕ
-track-after code at x = if of-section code then occupied-after code (at .section) (x .traffic .track .occupied) else x .traffic .track .occupied
+abbrev pub of-section : Touch → Bool
+of-section sets-route = false
+of-section releases-route = false
+of-section takes = true
+of-section frees = true
+of-section lowers = false
+of-section leaves = false
+
+abbrev pub track-after : Touch → Place → Situation → Track
+track-after sets-route at x = withWatch no-watch (x .traffic .track)
+track-after releases-route at x = x .traffic .track
+track-after takes at x = record { occupied = x .traffic .track .occupied with-section at .section; watch = watch-taken at x }
+track-after frees at x = record { occupied = still-occupied at x; watch = watch-freed at x }
+track-after lowers at x = withWatch (watch-lowered at x) (x .traffic .track)
+track-after leaves at x = x .traffic .track
+
+abbrev pub routed-after : Touch → Situation → Bool
+routed-after sets-route x = true
+routed-after releases-route x = x .traffic .other has-exit-route
+routed-after takes x = any-exit-route x
+routed-after frees x = any-exit-route x
+routed-after lowers x = any-exit-route x
+routed-after leaves x = any-exit-route x
 
 -- ---- "BSLB, its release": nothing else writes the signals
 abbrev pub of-signal : ℕ → Bool
@@ -39,7 +72,8 @@ signals-after code at s =
 
 -- ---- of one event, at a place
 pub record Framed (e : Kind) (at : Place) (x : Situation) : Type 0 where
-  pub occupied : effect (e .row at x) .traffic .track .occupied ≡ track-after (e .code) at x
+  pub track : effect (e .row at x) .traffic .track ≡ track-after (touch (e .code)) at x
+  pub routed : any-exit-route (effect (e .row at x)) ≡ routed-after (touch (e .code)) x
   pub signals : effect (e .row at x) .signals ≡ signals-after (e .code) at (x .signals)
   -- no row writes pending but SOBB's
   pub pending : effect (e .row at x) .traffic .pending ≡ (if eqb (e .code) (Sobb .code) then own-sobb else x .traffic .pending)
@@ -53,24 +87,27 @@ frame f g a c ok at x = ap (λ h. h at x) (at-code (λ e. f e ≡ g e) a c ok)
 
 pub framed : (c : ℕ) → Known c → (at : Place) (x : Situation) → Framed (kind-of c) at x
 framed c ok at x =
-    let occupied : Of ℕ = λ e at x. effect (e .row at x) .traffic .track .occupied in
-    let occupied′ : Of ℕ = λ e. track-after (e .code) in
+    let track : Of Track = λ e at x. effect (e .row at x) .traffic .track in
+    let track′ : Of Track = λ e. track-after (touch (e .code)) in
+    let routed : Of Bool = λ e at x. any-exit-route (effect (e .row at x)) in
+    let routed′ : Of Bool = λ e at x. routed-after (touch (e .code)) x in
     let signals : Of Signals = λ e at x. effect (e .row at x) .signals in
     let signals′ : Of Signals = λ e at x. signals-after (e .code) at (x .signals) in
     let pending : Of Pending = λ e at x. effect (e .row at x) .traffic .pending in
     let pending′ : Of Pending = λ e at x. if eqb (e .code) (Sobb .code) then own-sobb else x .traffic .pending in
     record {
-      occupied = frame occupied occupied′ (by-equation occupied occupied′ table refl) c ok at x;
+      track = frame track track′ (by-equation track track′ table refl) c ok at x;
+      routed = frame routed routed′ (by-equation routed routed′ table refl) c ok at x;
       signals = frame signals signals′ (by-equation signals signals′ table refl) c ok at x;
       pending = frame pending pending′ (by-equation pending pending′ table refl) c ok at x;
     }
 
 -- ---- what the arguments of those codes name
 abbrev agree : Kind → Bool
-agree e = (not (of-section (e .code)) or eqb (e .argument) section) and (not (of-signal (e .code)) or eqb (e .argument) signal)
+agree e = (not (of-section (touch (e .code))) or eqb (e .argument) section) and (not (of-signal (e .code)) or eqb (e .argument) signal)
 
 pub record Kinds (e : Kind) : Type 0 where
-  pub taken : T (of-section (e .code)) → T (eqb (e .argument) section)
+  pub taken : T (of-section (touch (e .code))) → T (eqb (e .argument) section)
   pub held : T (of-signal (e .code)) → T (eqb (e .argument) signal)
 
 implied : (a b : Bool) → T (not a or b) → T a → T b
@@ -82,6 +119,6 @@ kinds =
     at-code Kinds
     (each-all (λ e. T (agree e)) Kinds
     (λ e t.
-    let h = and-at (not (of-section (e .code)) or eqb (e .argument) section) (not (of-signal (e .code)) or eqb (e .argument) signal) t in
-    record { taken = implied (of-section (e .code)) (eqb (e .argument) section) (h .0); held = implied (of-signal (e .code)) (eqb (e .argument) signal) (h .1) })
+    let h = and-at (not (of-section (touch (e .code))) or eqb (e .argument) section) (not (of-signal (e .code)) or eqb (e .argument) signal) t in
+    record { taken = implied (of-section (touch (e .code))) (eqb (e .argument) section) (h .0); held = implied (of-signal (e .code)) (eqb (e .argument) signal) (h .1) })
     table (by-test agree table tt))

@@ -8,7 +8,7 @@ use Rattle.words.proofs.Tests.{and-of}
 use Rattle.sections.proofs.SetLaws.{none-has, none-up-to}
 use Rattle.block.specs.Line.{first-section, entrance}
 use Rattle.rulebook.specs.Situation.{fresh}
-use Rattle.rulebook.specs.Sound.{held-sound}
+use Rattle.rulebook.specs.Sound.{held-sound, setsSound, watchSound}
 use Rattle.block.specs.declared.line.Plan.{Plan}
 use Rattle.block.specs.declared.line.Direction.{Direction}
 use Rattle.block.specs.declared.line.Direction.the-variants.{TowardsA, TowardsB}
@@ -21,6 +21,7 @@ none-held q d =
 
 pub fresh-sound : FreshSound
 fresh-sound q =
-    and-of (sections-up-to (q .sections) none and held-sound q fresh TowardsB) (held-sound q fresh TowardsA)
+    and-of (setsSound q fresh) (watchSound fresh)
+    (and-of (sections-up-to (q .sections) none and held-sound q fresh TowardsB) (held-sound q fresh TowardsA)
     (and-of (sections-up-to (q .sections) none) (held-sound q fresh TowardsB) (none-up-to (q .sections)) (none-held q TowardsB))
-    (none-held q TowardsA)
+    (none-held q TowardsA)) tt

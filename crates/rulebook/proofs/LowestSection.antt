@@ -6,7 +6,8 @@ use mathlib.Core.Path.{_≡_, refl, sym, ap, _∙_}
 use native.Mathlib.Decide.{ℕ-discrete}
 use native.Mathlib.Omega.{arith}
 use Rattle.words.specs.Words.{if_then_else_}
-use Rattle.sections.specs.Sections.{_belongs-to_}
+use Rattle.sections.specs.Sections.{none, _belongs-to_}
+use Rattle.sections.proofs.SetLaws.{none-has}
 use Rattle.rulebook.specs.Names.{lowest-from}
 
 module _ (m : ℕ) where
@@ -48,3 +49,8 @@ module _ (m : ℕ) where
       go : (v : Bool) → lowest-from (k + 1) n m ≤ k + 1 + n → (if v then k else lowest-from (k + 1) n m) ≤ k + suc n
       go true h = omega arith
       go false h = omega (arith, h)
+
+pub lowest-of-none : (k n : ℕ) → lowest-from k n none ≡ 0
+unfolding lowest-from
+lowest-of-none k zero = refl
+lowest-of-none k (suc n) = rw (none-has k) (lowest-of-none (k + 1) n)

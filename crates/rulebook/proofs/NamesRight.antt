@@ -1,4 +1,4 @@
--- (02, Req 01) What refusals name: 13 the lowest occupied section, 9 a station that has an exit route, every other number nothing; and that 15 is for
+-- (02, Req 01) What refusals name: 13 the lowest occupied section, or 0 where a count runs alone (Req 02), 9 a station that has an exit route, every other number nothing; and that 15 is for
 -- a free track with an exit route at the other station. Assumes nothing.
 use Prim.Native.Nat.{ℕ, _≤_, _<_}
 use mathlib.Core.Bool.{Bool, true, false, not, false≢true}
@@ -6,7 +6,7 @@ use mathlib.Core.Logic.{_⊎_, inl, inr, ⊎-elim}
 use mathlib.Core.Path.{_≡_, refl, sym, ap, subst, _∙_}
 use native.Mathlib.Decide.{decLt}
 use native.Mathlib.Omega.{arith}
-use borrow.Author.Tests.{not-true, eq-eqb, ne-eqb, eqb-false, eqb-true, le-leb}
+use borrow.Author.Tests.{not-true, not-false, eq-eqb, ne-eqb, eqb-false, eqb-true, le-leb}
 use lib.Dec.{T, eqb, leb, eqb→eq, leb→le}
 use Rattle.words.specs.Words.{_and_, _or_, if_then_else_}
 use Rattle.words.proofs.Tests.{and-at, and-of, or-at, twice-not, holds-is, is-holds, if-case}
@@ -14,7 +14,7 @@ use Rattle.sections.specs.Sections.{none, _belongs-to_, sections-up-to}
 use Rattle.sections.proofs.SetLaws.{no-sections, none-outside}
 use Rattle.block.specs.Line.{isPlan, opposite, station-named}
 use Rattle.block.proofs.PlanLaws.{plan-short}
-use Rattle.rulebook.specs.Situation.{Situation, Kept, seen-from, station, any-exit-route, track-clear, _is-in, _has-exit-route}
+use Rattle.rulebook.specs.Situation.{Situation, Kept, seen-from, station, any-exit-route, count-runs, track-free, _is-in, _has-exit-route}
 use Rattle.rulebook.specs.Sound.{sound, held-sound}
 use Rattle.rulebook.specs.Judged.{judged}
 use Rattle.rulebook.specs.Checks.{Row, ⟶_, _┃_, _when_, enough-when_, refusal}
@@ -31,9 +31,9 @@ use Rattle.block.specs.declared.event.Event.{Event}
 use Rattle.block.specs.declared.event.Spot.{Spot}
 use Rattle.rulebook.proofs.InTable.{All, Known, by-test, by-equation, at-code, its-code}
 use Rattle.rulebook.proofs.Judged.{judged-plan, judged-sound}
-use Rattle.rulebook.proofs.LowestSection.{Lowest, NoneOf, lowest, lowest-below}
+use Rattle.rulebook.proofs.LowestSection.{Lowest, NoneOf, lowest, lowest-of-none, lowest-below}
 use Rattle.rulebook.proofs.SoundnessKept.{parts}
-use Rattle.rulebook.specs.Laws.{LowestOccupied, ThirteenNames, FifteenMeans, NineNames, OthersNameNothing}
+use Rattle.rulebook.specs.Laws.{LowestOccupied, CountAlone, ThirteenNames, FifteenMeans, NineNames, OthersNameNothing}
 
 -- ---- what a row's refusal says of its checks
 -- a check of number n fails
@@ -91,8 +91,8 @@ module _ (at : Spot) (x : Situation) where
   abbrev row-of : Kind → Row
   row-of k = k .row (place at x) x
 
-  abbrev occupied : Bool
-  occupied = x .traffic .own is-in and not (track-clear (x .traffic .track))
+  abbrev not-free : Bool
+  not-free = x .traffic .own is-in and not (track-free (x .traffic .track))
 
   abbrev routed : Bool
   routed = x .traffic .own is-in and x .traffic .other has-exit-route
@@ -104,28 +104,28 @@ module _ (at : Spot) (x : Situation) where
   abbrev of-exit : Bool → ℕ → Bool
   of-exit v c = exits c and (v or false)
 
-  occupied-at : (c : ℕ) → Known c → of-exit occupied c ≡ fails-at 13 (row-of (kind-of c))
-  occupied-at = at-known (λ k. fails-at 13 (row-of k)) (of-exit occupied) (by-equation (λ k. fails-at 13 (row-of k)) (λ k. of-exit occupied (k .code)) table refl)
+  not-free-at : (c : ℕ) → Known c → of-exit not-free c ≡ fails-at 13 (row-of (kind-of c))
+  not-free-at = at-known (λ k. fails-at 13 (row-of k)) (of-exit not-free) (by-equation (λ k. fails-at 13 (row-of k)) (λ k. of-exit not-free (k .code)) table refl)
 
   routed-at : (c : ℕ) → Known c → of-exit routed c ≡ fails-at 15 (row-of (kind-of c))
   routed-at = at-known (λ k. fails-at 15 (row-of k)) (of-exit routed) (by-equation (λ k. fails-at 15 (row-of k)) (λ k. of-exit routed (k .code)) table refl)
 
-  occupied-before : (c : ℕ) → Known c → of-exit occupied c ≡ fails-before 15 13 (row-of (kind-of c))
-  occupied-before = at-known (λ k. fails-before 15 13 (row-of k)) (of-exit occupied) (by-equation (λ k. fails-before 15 13 (row-of k)) (λ k. of-exit occupied (k .code)) table refl)
+  not-free-before : (c : ℕ) → Known c → of-exit not-free c ≡ fails-before 15 13 (row-of (kind-of c))
+  not-free-before = at-known (λ k. fails-before 15 13 (row-of k)) (of-exit not-free) (by-equation (λ k. fails-before 15 13 (row-of k)) (λ k. of-exit not-free (k .code)) table refl)
 
-  is-occupied : (c : ℕ) → Known c → refuses (kind-of c) at x ≡ 13 → track-clear (x .traffic .track) ≡ false
-  is-occupied c ok e =
-      let h = both-so (exits c) (occupied or false) (occupied-at c ok ∙ refused-by 13 (λ z. omega (arith, z)) (row-of (kind-of c)) e) in
-      not-true (track-clear (x .traffic .track)) (both-so (x .traffic .own is-in) _ (alone occupied true (h .1)) .1)
+  is-not-free : (c : ℕ) → Known c → refuses (kind-of c) at x ≡ 13 → track-free (x .traffic .track) ≡ false
+  is-not-free c ok e =
+      let h = both-so (exits c) (not-free or false) (not-free-at c ok ∙ refused-by 13 (λ z. omega (arith, z)) (row-of (kind-of c)) e) in
+      not-true (track-free (x .traffic .track)) (both-so (x .traffic .own is-in) _ (alone not-free true (h .1)) .1)
 
   is-routed : (c : ℕ) → Known c → refuses (kind-of c) at x ≡ 15
-      → ((x .traffic .own is-in) ≡ true) × (track-clear (x .traffic .track) ≡ true) × ((x .traffic .other has-exit-route) ≡ true)
+      → ((x .traffic .own is-in) ≡ true) × (track-free (x .traffic .track) ≡ true) × ((x .traffic .other has-exit-route) ≡ true)
   is-routed c ok e =
       let h = both-so (exits c) (routed or false) (routed-at c ok ∙ refused-by 15 (λ z. omega (arith, z)) (row-of (kind-of c)) e) in
-      let passed = occupied-before c ok ∙ passed-before 15 (λ z. omega (arith, z)) 13 (row-of (kind-of c)) e in
+      let passed = not-free-before c ok ∙ passed-before 15 (λ z. omega (arith, z)) 13 (row-of (kind-of c)) e in
       let there = both-so (x .traffic .own is-in) _ (alone routed true (h .1)) in
-      let clear = alone occupied false (ap (λ (v : Bool). v and (occupied or false)) (sym (h .0)) ∙ passed) in
-      (there .0, not-second (x .traffic .own is-in) (track-clear (x .traffic .track)) (there .0) clear, there .1)
+      let clear = alone not-free false (ap (λ (v : Bool). v and (not-free or false)) (sym (h .0)) ∙ passed) in
+      (there .0, not-second (x .traffic .own is-in) (track-free (x .traffic .track)) (there .0) clear, there .1)
 
   -- SOBB and COBB check any exit route, AFBLI, AFBLE and BILC own's, and no other event has the check 9
   abbrev nine : Bool → ℕ → Bool
@@ -237,8 +237,11 @@ thirteen-names p x e refused = pick (lowest m 1 n)
         let sets = parts p x (own .sound) .sets in
         and-at (sections-up-to n m) (held-sound p x TowardsB) (and-at (sections-up-to n m and held-sound p x TowardsB) (held-sound p x TowardsA) sets .0) .0
 
-    some : m ≡ none → ⊥
-    some = eqb-false m none (ap track-clear (sym (track-seen (spot p e .own) x)) ∙ is-occupied (spot p e) (seen-from (spot p e .own) x) (e .code) (own .known) (own .refused))
+    some : track-free (x .traffic .track) ≡ false
+    some = ap track-free (sym (track-seen (spot p e .own) x)) ∙ is-not-free (spot p e) (seen-from (spot p e .own) x) (e .code) (own .known) (own .refused)
+
+    alone-runs : m ≡ none → count-runs (x .traffic .track .watch) ≡ true
+    alone-runs empty = not-false (count-runs (x .traffic .track .watch)) (ap (λ (v : Bool). v and not (count-runs (x .traffic .track .watch))) (sym (eq-eqb m none empty)) ∙ some)
 
     nowhere : NoneOf m 1 n → (j : ℕ) → Dec (0 < j) → Dec (n < j) → (j belongs-to m) ≡ false
     nowhere empty j (yes l) (no h) = empty j (omega arith) (omega arith)
@@ -249,14 +252,16 @@ thirteen-names p x e refused = pick (lowest m 1 n)
     below w j h (yes l) = w .least j (omega arith) h
     below w j h (no l) = none-outside n m within j (λ low high. l (omega arith))
 
-    pick : NoneOf m 1 n ⊎ Lowest m 1 n (lowest-from 1 n m) → LowestOccupied p x (lowest-from 1 n m)
-    pick (inl empty) = absurd (some (no-sections m (λ j. nowhere empty j (decLt 0 j) (decLt n j))))
+    pick : NoneOf m 1 n ⊎ Lowest m 1 n (lowest-from 1 n m) → LowestOccupied p x (lowest-from 1 n m) ⊎ CountAlone x (lowest-from 1 n m)
+    pick (inl missing) =
+        let empty : m ≡ none = no-sections m (λ j. nowhere missing j (decLt 0 j) (decLt n j)) in
+        inr (record { nothing-occupied = eq-eqb m none empty; running = alone-runs empty; section-0 = ap (lowest-from 1 n) empty ∙ lowest-of-none 1 n })
     pick (inr w) =
-        record {
+        inl (record {
           on-the-line = and-of (leb 1 (lowest-from 1 n m)) (leb (lowest-from 1 n m) n) (is-holds _ (le-leb 1 (lowest-from 1 n m) (w .low))) (is-holds _ (le-leb (lowest-from 1 n m) n (omega (arith, w .high))));
           is-occupied = w .found;
           none-below = λ j h. below w j h (decLt 0 j);
-        }
+        })
 
 pub fifteen-means : FifteenMeans
 fifteen-means p x e refused =
@@ -265,7 +270,7 @@ fifteen-means p x e refused =
     let h = is-routed (spot p e) (seen-from s x) (e .code) (own .known) (own .refused) in
     record {
       own-is-in = ap _is-in (sym (own-seen s x)) ∙ h .0;
-      track-free = ap track-clear (sym (track-seen s x)) ∙ h .1;
+      track-is-free = ap track-free (sym (track-seen s x)) ∙ h .1;
       other-has-route = ap _has-exit-route (sym (other-seen s x)) ∙ h .2;
     }
 

@@ -6,7 +6,7 @@ use mathlib.Core.Path.{_≡_, refl, ap, ap₂, _∙_, subst}
 use native.Mathlib.Omega.{arith}
 use lib.Dec.{eqb}
 use Rattle.words.specs.Words.{_and_, _or_, if_then_else_}
-use Rattle.words.proofs.Tests.{twice-not, not-equal, if-case}
+use Rattle.words.proofs.Tests.{twice-not, not-equal, if-case, or-turned}
 use Rattle.rulebook.specs.Judged.{judged}
 use Rattle.rulebook.specs.Pending.{changes, orientation-change}
 use Rattle.rulebook.specs.Place.{Place, place}
@@ -33,12 +33,6 @@ causes : All (λ k. k .clears-pending ≡ cause (k .code)) table
 causes = by-equation (λ k. k .clears-pending) (λ k. cause (k .code)) table refl
 
 -- ---- an orientation change
-or-turned : (a b : Bool) → (a or b) ≡ (b or a)
-or-turned true true = refl
-or-turned true false = refl
-or-turned false true = refl
-or-turned false false = refl
-
 not-and : (a b : Bool) → (not a or not b) ≡ not (a and b)
 not-and true b = refl
 not-and false b = refl

@@ -1,7 +1,7 @@
 -- Every event keeps the sets of a sound situation within the plan. Assumes nothing.
 use Prim.Native.Nat.{ℕ, _<_}
 use mathlib.Core.Bool.{not}
-use mathlib.Core.Path.{_≡_, sym, subst}
+use mathlib.Core.Path.{_≡_, sym, ap, subst}
 use native.Mathlib.Omega.{arith}
 use lib.Dec.{T, eqb}
 use Rattle.words.specs.Words.{_and_}
@@ -10,15 +10,15 @@ use Rattle.words.proofs.Tests.{and-at, and-of, if-case}
 use Rattle.sections.proofs.SetLaws.{has-with-other, has-without-other, with-up-to, without-up-to}
 use Rattle.block.specs.Line.{first-section, entrance}
 use Rattle.rulebook.specs.Place.{Place}
-use Rattle.rulebook.specs.Situation.{Signals, Held, Situation, held-towards, with-held-towards}
+use Rattle.rulebook.specs.Situation.{Track, Signals, Held, Situation, held-towards, with-held-towards}
 use Rattle.rulebook.specs.Sound.{held-sound, setsSound}
-use Rattle.rulebook.specs.Table.{Kind, Bslb, Occupied}
+use Rattle.rulebook.specs.Table.{Kind, Bslb}
 use Rattle.block.specs.declared.line.Plan.{Plan}
 use Rattle.block.specs.declared.line.Direction.{Direction}
 use Rattle.block.specs.declared.line.Direction.the-variants.{TowardsA, TowardsB}
 use Rattle.rulebook.proofs.StationsKept.{next}
 use Rattle.rulebook.proofs.Placed.{InLine, OfBlockSignal, Placed}
-use Rattle.rulebook.proofs.Frame.{Framed, Kinds, of-section, occupied-after, track-after, of-signal, held-after, signals-after}
+use Rattle.rulebook.proofs.Frame.{Framed, Kinds, Touch, sets-route, releases-route, takes, frees, lowers, leaves, touch, of-section, track-after, of-signal, held-after, signals-after}
 
 -- a set that holds sections only, and not j, stays one
 module _ (n k j m : ℕ) (l : InLine n k) (other : k ≡ j → ⊥) (s : T (sections-up-to n m and not (j belongs-to m))) where
@@ -47,17 +47,13 @@ module _ (q : Plan) where
   abbrev held-in : Direction → Held → Type 0
   held-in d h = T (sections-up-to (q .sections) (held-towards d h) and not (first-section q (entrance d) belongs-to held-towards d h))
 
-  track-kept : (code : ℕ) (at : Place) (x : Situation) → (T (of-section code) → InLine (q .sections) (at .section)) → within (x .traffic .track .occupied) → within (track-after code at x)
-  track-kept code at x line s =
-      let k : ℕ = at .section in
-      let m : ℕ = x .traffic .track .occupied in
-      if-case within (of-section code) (occupied-after code k m) m
-      (λ t. let l = line t in
-      let in-word : k < 49 = omega (arith, l .high, l .short) in
-      if-case within (eqb code (Occupied .code)) (m with-section k) (m without-section k)
-      (λ u. with-up-to (q .sections) m s k in-word (l .low) (l .high))
-      (λ u. without-up-to (q .sections) m s k in-word (l .low)))
-      (λ t. s)
+  track-kept : (t : Touch) (at : Place) (x : Situation) → (T (of-section t) → InLine (q .sections) (at .section)) → within (x .traffic .track .occupied) → within (track-after t at x .occupied)
+  track-kept sets-route at x line s = s
+  track-kept releases-route at x line s = s
+  track-kept takes at x line s = let l = line tt in with-up-to (q .sections) (x .traffic .track .occupied) s (at .section) (omega (arith, l .high, l .short)) (l .low) (l .high)
+  track-kept frees at x line s = let l = line tt in without-up-to (q .sections) (x .traffic .track .occupied) s (at .section) (omega (arith, l .high, l .short)) (l .low)
+  track-kept lowers at x line s = s
+  track-kept leaves at x line s = s
 
   abbrev both-held : Held → Type 0
   both-held h = held-in TowardsB h × held-in TowardsA h
@@ -86,7 +82,7 @@ module _ (q : Plan) where
       let before = and-at (sections-up-to n (x .traffic .track .occupied) and held-sound q x TowardsB) (held-sound q x TowardsA) s in
       let before₂ = and-at (sections-up-to n (x .traffic .track .occupied)) (held-sound q x TowardsB) (before .0) in
       let tracks : within (y .traffic .track .occupied) =
-      subst within (sym (f .occupied)) (track-kept (e .code) at x (λ t. right .section (kind .taken t)) (before₂ .0)) in
+      subst within (sym (ap (λ (t : Track). t .occupied) (f .track))) (track-kept (touch (e .code)) at x (λ t. right .section (kind .taken t)) (before₂ .0)) in
       let signals : both-held (y .signals .held) =
       subst (λ (r : Signals). both-held (r .held)) (sym (f .signals)) (signals-kept (e .code) at (x .signals) (λ t. right .signal (kind .held t)) (before₂ .1, before .1)) in
       and-of (sections-up-to n (y .traffic .track .occupied) and held-sound q y TowardsB) (held-sound q y TowardsA)

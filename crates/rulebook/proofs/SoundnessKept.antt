@@ -1,14 +1,16 @@
 -- "Every accepted event leads from a sound situation to a sound one." Assumes nothing.
 use mathlib.Core.Bool.{not}
+use native.Mathlib.Omega.{arith}
 use lib.Dec.{T, eqb}
 use borrow.Author.Tests.{eq-eqb}
+use Rattle.words.specs.Words.{_and_}
 use Rattle.words.proofs.Tests.{and-at, and-of, twice-not, if-case, is-holds}
 use Rattle.block.specs.Line.{isPlan}
 use Rattle.rulebook.specs.Judged.{judged}
 use Rattle.block.proofs.PlanLaws.{plan-short}
 use Rattle.rulebook.specs.Place.{Place, place}
 use Rattle.rulebook.specs.Situation.{Situation, Kept, turnedRound, seen-from}
-use Rattle.rulebook.specs.Sound.{stationsSound, setsSound, sound}
+use Rattle.rulebook.specs.Sound.{stationsSound, setsSound, watchSound, sound}
 use Rattle.rulebook.specs.Table.{Kind, kind-of}
 use Rattle.rulebook.specs.Apply.{refuses, refusal-at, led-at, known, argument-right, spot, own-refusal, reached, accepted, refused, acted, stepped, applied, Outcome}
 use Rattle.block.specs.declared.line.Plan.{Plan}
@@ -22,22 +24,27 @@ use Rattle.rulebook.proofs.Placed.{placed}
 use Rattle.rulebook.proofs.StationsKept as stations
 use Rattle.rulebook.proofs.StationsKept.{next, turned-sound, stations-kept}
 use Rattle.rulebook.proofs.SetsKept.{sets-kept}
+use Rattle.rulebook.proofs.WatchKept.{watch-kept, watch-turned}
 use Rattle.rulebook.specs.Laws.{SoundnessKept, MethodsSound}
 
 -- the conjuncts of soundness
 pub record Parts (q : Plan) (x : Situation) : Type 0 where
   pub stations : T (stationsSound x)
   pub sets : T (setsSound q x)
+  pub watch : T (watchSound x)
 
 pub parts : (q : Plan) (x : Situation) → T (sound q x) → Parts q x
-parts q x t = let h = and-at (stationsSound x) (setsSound q x) t in record { stations = h .0; sets = h .1 }
+parts q x t =
+    let h = and-at (stationsSound x and setsSound q x) (watchSound x) t in
+    let g = and-at (stationsSound x) (setsSound q x) (h .0) in
+    record { stations = g .0; sets = g .1; watch = h .1 }
 
 pub whole : (q : Plan) (x : Situation) → Parts q x → T (sound q x)
-whole q x p = and-of (stationsSound x) (setsSound q x) (p .stations) (p .sets)
+whole q x p = and-of (stationsSound x and setsSound q x) (watchSound x) (and-of (stationsSound x) (setsSound q x) (p .stations) (p .sets)) (p .watch)
 
 -- ---- seen from the other station
 turned-round : (q : Plan) (x : Situation) → T (sound q x) → T (sound q (turnedRound x))
-turned-round q x t = let p = parts q x t in whole q (turnedRound x) (record { stations = turned-sound x (p .stations); sets = p .sets })
+turned-round q x t = let p = parts q x t in whole q (turnedRound x) (record { stations = turned-sound x (p .stations); sets = p .sets; watch = watch-turned x (p .watch) })
 
 pub seen-sound : (q : Plan) (s : Name) (x : Kept) → T (sound q x) → T (sound q (seen-from s x))
 seen-sound q StationA x t = t
@@ -56,10 +63,14 @@ module _ (q : Plan) (plan : T (isPlan q)) (x : Kept) (e : Event) (t : T (sound q
       let k : Kind = kind-of (e .code) in
       let here : Place = place at seen in
       let p = parts q seen (seen-sound q (at .own) x t) in
+      let kind = kinds (e .code) ok in
+      let frame = framed (e .code) ok here seen in
+      let there = placed q (plan-short q plan) (k .argument) (e .argument) right in
       whole q (next k here seen)
       (record {
         stations = at-code (λ k. stations.accepted (k .row here seen) → T (stationsSound (next k here seen))) (stations-kept here seen (p .stations)) (e .code) ok a;
-        sets = sets-kept q k here seen (kinds (e .code) ok) (framed (e .code) ok here seen) (placed q (plan-short q plan) (k .argument) (e .argument) right) (p .sets);
+        sets = sets-kept q k here seen kind frame there (p .sets);
+        watch = watch-kept k here seen frame (λ u. let l = there .section (kind .taken u) in omega (arith, l .high, l .short)) (p .watch);
       })
 
   pub reached-sound : Known (e .code) → T (argument-right q e) → T (eqb (own-refusal q x e) 0) → T (sound q (reached q x e))

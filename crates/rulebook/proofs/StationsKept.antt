@@ -29,14 +29,14 @@ otherwise-at false k t n = n t
 
 -- ---- what rows read that soundness does not speak of: what is told of the line, and own's reminder
 abbrev told : Place → Bool → Bool → Bool → Place
-told at clear first expected = record { plan = at .plan; own = at .own; section = at .section; direction = at .direction; first = first; expected = expected; track-clear = clear }
+told at free first expected = record { plan = at .plan; own = at .own; section = at .section; direction = at .direction; first = first; expected = expected; track-free = free }
 
 abbrev reminded : Situation → Bool → Situation
 reminded x m = withOwn (withReminder m (x .traffic .own)) x
 
 -- the row refuses, whatever it reads of those
 abbrev refuses : Kind → Place → Situation → Test 2
-refuses e at x clear m = not (eqb (refusal (e .row (told at clear (at .first) (at .expected)) (reminded x m))) 0)
+refuses e at x free m = not (eqb (refusal (e .row (told at free (at .first) (at .expected)) (reminded x m))) 0)
 
 -- where the event leads is sound, or else the row refuses
 abbrev stays : Kind → Place → Situation → Bool
@@ -48,7 +48,7 @@ choose true a b = a tt
 choose false a b = b tt
 
 abbrev tested : Place → Situation → Kind → Bool
-tested at x e = choose (eqb (e .argument) section) (λ u. every 3 (λ clear first expected. stays e (told at clear first expected) x)) (λ u. stays e at x)
+tested at x e = choose (eqb (e .argument) section) (λ u. every 3 (λ free first expected. stays e (told at free first expected) x)) (λ u. stays e at x)
 
 computed : (at : Place) (x : Situation) → T (everywhere x (λ y. passes (tested at y) table))
 computed at x = tt
@@ -57,7 +57,7 @@ computed at x = tt
 stays-at : (e : Kind) (at : Place) (x : Situation) → T (stays e at x) → accepted (e .row at x) → T (stationsSound (next e at x))
 stays-at e at x t a =
     otherwise-at (stationsSound (next e at x)) (λ u. every 2 (refuses e at x)) t
-    (λ r. T-not (eqb (refusal (e .row at x)) 0) (every-at 2 (refuses e at x) r (at .track-clear) (x .traffic .own .reminder)) a)
+    (λ r. T-not (eqb (refusal (e .row at x)) 0) (every-at 2 (refuses e at x) r (at .track-free) (x .traffic .own .reminder)) a)
 
 choose-at : (v : Bool) (a b : Unit {0} → Bool) (P : Type 0) → (T (a tt) → P) → (T (b tt) → P) → T (choose v a b) → P
 choose-at true a b P f g t = f t
@@ -65,9 +65,9 @@ choose-at false a b P f g t = g t
 
 tested-at : (e : Kind) (at : Place) (x : Situation) → T (tested at x e) → accepted (e .row at x) → T (stationsSound (next e at x))
 tested-at e at x t a =
-    choose-at (eqb (e .argument) section) (λ u. every 3 (λ clear first expected. stays e (told at clear first expected) x)) (λ u. stays e at x)
+    choose-at (eqb (e .argument) section) (λ u. every 3 (λ free first expected. stays e (told at free first expected) x)) (λ u. stays e at x)
     (T (stationsSound (next e at x)))
-    (λ h. stays-at e at x (every-at 3 (λ clear first expected. stays e (told at clear first expected) x) h (at .track-clear) (at .first) (at .expected)) a)
+    (λ h. stays-at e at x (every-at 3 (λ free first expected. stays e (told at free first expected) x) h (at .track-free) (at .first) (at .expected)) a)
     (λ h. stays-at e at x h a) t
 
 pub stations-kept : (at : Place) (x : Situation) → T (stationsSound x) → All (λ e. accepted (e .row at x) → T (stationsSound (next e at x))) table

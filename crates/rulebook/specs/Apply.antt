@@ -50,7 +50,7 @@ fits p names arg =
 abbrev pub argument-right : Plan → Event → Bool
 argument-right p e = fits p (kind-of (e .code) .argument) (e .argument)
 
--- ""Own" is the station named"; of a section or a signal it is the owner, of the link A stands for it
+-- ""Own" is the station named"; of a section or a signal it is the owner, of the link, and of a second, A stands for it
 abbrev pub named : Plan → ℕ → ℕ → Name
 named p names arg =
     if eqb names signal or eqb names section then owner p (section-of arg) else

@@ -1,13 +1,15 @@
 -- Orders and happenings, a row of the table each. x is the situation as the station named sees it: "own" is that station, "other" its
 -- neighbour; at is where the event happens. What becomes of a pending SOBB is said once, in Pending.
-use Prim.Native.Nat.{ℕ}
+use Prim.Native.Nat.{ℕ, _-_}
 use mathlib.Core.Bool.{Bool, true, false, not}
+use lib.Dec.{eqb}
 use Rattle.words.specs.Words.{_and_, _or_, if_then_else_}
+use Rattle.sections.specs.Sections as sections
 use Rattle.sections.specs.Sections.{_belongs-to_, _with-section_, _without-section_}
 use Rattle.rulebook.specs.Checks.{Row, ⟶_, _┃_, _when_, enough-when_}
 use Rattle.rulebook.specs.Place.{Place}
 use Rattle.rulebook.specs.Situation as situation
-use Rattle.rulebook.specs.Situation.{Station, Track, Situation, none, out, inward, no-annulment, AFBLI, AFBLE, no-route, normal, special, own-sobb, _is-out, _is-in, _is-none, _annulled, _under-AFBLE, _has-exit-route, _annulled-by_, _with-exit_, withEntry, withBilc, withBslg, withReminder, withLink, withOwn, withPending, withTrack, withOccupied, with-held, reoriented, reoriented-where}
+use Rattle.rulebook.specs.Situation.{Station, Watch, Track, Situation, none, out, inward, no-annulment, AFBLI, AFBLE, no-route, normal, special, own-sobb, _is-out, _is-in, _is-none, _annulled, _under-AFBLE, _has-exit-route, _annulled-by_, _with-exit_, withEntry, withBilc, withBslg, withReminder, withLink, withOwn, withPending, withTrack, withWatch, no-watch, with-held, reoriented, reoriented-where}
 use Rattle.block.specs.declared.codes.Annulment.{Annulment}
 use Rattle.block.specs.declared.codes.Route.{Route}
 
@@ -38,16 +40,22 @@ module _ (at : Place) (x : Situation) where
   any-exit-route = situation.any-exit-route x
 
   abbrev line-free : Bool
-  line-free = situation.free-with (at .track-clear) x
+  line-free = situation.free-with (at .track-free) x
 
-  abbrev any-section-occupied : Bool
-  any-section-occupied = not (at .track-clear)
+  abbrev track-not-free : Bool
+  track-not-free = not (at .track-free)
 
   abbrev k : ℕ
   k = at .section
 
   abbrev track : Track
   track = x .traffic .track
+
+  abbrev mark : Bool
+  mark = track .watch .mark
+
+  abbrev count : ℕ
+  count = track .watch .count
 
   abbrev held : ℕ
   held = situation.held x (at .direction)
@@ -123,12 +131,13 @@ module _ (at : Place) (x : Situation) where
   reminder-off = 5 when not (own .reminder) ┃ ⟶ withOwn (withReminder false own) x
 
   -- "if own is in, own becomes out and other in (001, automatic reorientation). With AFBLE no orientation is written."
+  -- (02, Req 02) "an accepted exit route clears both", mark and count
   abbrev pub exit : Route → Situation
-  exit r = reoriented-where (own is-in and not (own under-AFBLE)) out inward (withOwn (own with-exit r) x)
+  exit r = reoriented-where (own is-in and not (own under-AFBLE)) out inward (withOwn (own with-exit r) (withTrack (withWatch no-watch track) x))
 
   -- | 14 | exit route, normal | 5 one is set; 11 BILC; 8 annulled; 14 reminder; 6; 12 own none; 13 own is in and line not free |
   -- 02, Req 01, tells its last check apart: "13 stays for an occupied section ..; 15 is for a free track with an exit route at the other station.
-  -- When both hold, 13 is given."
+  -- When both hold, 13 is given." Req 02: "a running count alone gives 13", too
   abbrev pub exit-normal : Row
   exit-normal =
       5 when own has-exit-route
@@ -137,7 +146,7 @@ module _ (at : Place) (x : Situation) where
       ┃ 14 when own .reminder
       ┃ 6 when link-down
       ┃ 12 when own is-none
-      ┃ 13 when own is-in and any-section-occupied
+      ┃ 13 when own is-in and track-not-free
       ┃ 15 when own is-in and other has-exit-route
       ┃ ⟶ exit normal
 
@@ -150,7 +159,7 @@ module _ (at : Place) (x : Situation) where
       ┃ 8 when own annulled
       ┃ 6 when link-down
       ┃ 12 when own is-none
-      ┃ 13 when own is-in and any-section-occupied
+      ┃ 13 when own is-in and track-not-free
       ┃ 15 when own is-in and other has-exit-route
       ┃ ⟶ exit special
 
@@ -170,8 +179,16 @@ module _ (at : Place) (x : Situation) where
   abbrev pub annulment-kept : Bool
   annulment-kept = at .expected or (own under-AFBLE and at .first)
 
+  -- (02, Req 02) "A mark is set when a section becomes occupied, unexpected by 01, while neither station has an exit route."
+  abbrev pub stray : Bool
+  stray = not (at .expected) and not any-exit-route
+
+  -- "A new occupation sets the count to 0 and keeps the mark"
+  abbrev pub watch-taken : Watch
+  watch-taken = record { mark = mark or stray; count = 0 }
+
   abbrev pub taken : Situation
-  taken = withOwn (own annulled-by (if annulment-kept then own .annulment else no-annulment)) (withTrack (withOccupied (track .occupied with-section k) track) x)
+  taken = withOwn (own annulled-by (if annulment-kept then own .annulment else no-annulment)) (withTrack (record { occupied = track .occupied with-section k; watch = watch-taken }) x)
 
   -- "Separately, if k is s's first section, s is in, and the line was free, s becomes out and the other in"
   abbrev pub turns : Bool
@@ -180,9 +197,22 @@ module _ (at : Place) (x : Situation) where
   abbrev pub occupied : Row
   occupied = 5 when (k belongs-to track .occupied) ┃ ⟶ reoriented-where turns out inward taken
 
-  -- "Freed clears that section and nothing else."
+  -- (02, Req 02) "When the last section clears with that mark set and no exit route set, a count of 10 starts."
+  abbrev pub still-occupied : ℕ
+  still-occupied = track .occupied without-section k
+
+  abbrev pub count-starts : Bool
+  count-starts = eqb still-occupied sections.none and mark and not any-exit-route
+
+  abbrev pub first-count : ℕ
+  first-count = 10
+
+  abbrev pub watch-freed : Watch
+  watch-freed = record { mark = mark; count = if count-starts then first-count else count }
+
+  -- "Freed clears that section and nothing else", but for the count
   abbrev pub freed : Row
-  freed = 5 when not (k belongs-to track .occupied) ┃ ⟶ withTrack (withOccupied (track .occupied without-section k) track) x
+  freed = 5 when not (k belongs-to track .occupied) ┃ ⟶ withTrack (record { occupied = still-occupied; watch = watch-freed }) x
 
   -- | 21, 22 | link lost, restored (argument 0) | 5 | see below |
   -- "Link lost leaves the orientations."
@@ -192,3 +222,14 @@ module _ (at : Place) (x : Situation) where
   -- "Link restored: unless one is out and one in, both become none."
   abbrev pub link-restored : Row
   link-restored = 5 when link-up ┃ ⟶ reoriented-where (not (situation.one-out-one-in x)) none none (withLink true x)
+
+  -- (02, Req 02) | 23 | one second passed (argument 0) | "always accepted" |
+  -- "Each second lowers it; when that brings it to 0 the mark goes; with no count running a second changes nothing." (0 - 1 is 0)
+  abbrev pub brings-to-0 : Bool
+  brings-to-0 = situation.count-runs (track .watch) and eqb (count - 1) 0
+
+  abbrev pub watch-lowered : Watch
+  watch-lowered = record { mark = mark and not brings-to-0; count = count - 1 }
+
+  abbrev pub second : Row
+  second = ⟶ withTrack (withWatch watch-lowered track) x

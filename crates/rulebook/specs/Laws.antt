@@ -1,18 +1,19 @@
 -- What is proved of every event of the block: each law as a statement, proved under the same name in proofs/.
-use Prim.Native.Nat.{ℕ, _<_}
+use Prim.Native.Nat.{ℕ, zero, suc, _-_, _<_}
 use mathlib.Core.Bool.{Bool, true, false, not, Bool·beq}
 use mathlib.Core.List.{List, [], _∷_}
+use mathlib.Core.Logic.{_⊎_}
 use mathlib.Core.Path.{_≡_}
 use lib.Dec.{T, eqb}
 use Rattle.words.specs.Words.{_and_, _or_, if_then_else_}
-use Rattle.sections.specs.Sections.{_belongs-to_}
+use Rattle.sections.specs.Sections.{_belongs-to_, only}
 use Rattle.block.specs.Line.{isPlan, is-section, opposite}
-use Rattle.rulebook.specs.Situation.{Station, Situation, Kept, areaDirection, fresh, nobody, seen-from, station, held, track-clear, line-free, withStations, normal, special, _is-out, _is-in, _is-none, _annulled, _under-AFBLI, _under-AFBLE, _has-exit-route}
+use Rattle.rulebook.specs.Situation.{Station, Situation, Kept, areaDirection, fresh, nobody, seen-from, station, held, any-exit-route, none-occupied, count-runs, track-free, line-free, withStations, withTrack, withWatch, normal, special, _is-out, _is-in, _is-none, _annulled, _under-AFBLI, _under-AFBLE, _has-exit-route}
 use Rattle.rulebook.specs.Sound.{stationSound, sound}
 use Rattle.rulebook.specs.Checks.{Row, ⟶_, _┃_, _when_, enough-when_}
-use Rattle.rulebook.specs.Place.{Place}
+use Rattle.rulebook.specs.Place.{Place, expected}
 use Rattle.rulebook.specs.Events.{exit}
-use Rattle.rulebook.specs.Table.{Kind, kind, keeps, Sobb, Cobb, Afbli, Afble, Dafbl, Bilc, Dilc, Bslg, BslgOff, Bslb, BslbOff, Reminder, ReminderOff, ExitNormal, ExitSpecial, ExitReleased, Entry, EntryReleased, Occupied, Freed, LinkLost, LinkRestored, kind-of}
+use Rattle.rulebook.specs.Table.{Kind, kind, keeps, Sobb, Cobb, Afbli, Afble, Dafbl, Bilc, Dilc, Bslg, BslgOff, Bslb, BslbOff, Reminder, ReminderOff, ExitNormal, ExitSpecial, ExitReleased, Entry, EntryReleased, Occupied, Freed, LinkLost, LinkRestored, Second, kind-of}
 use Rattle.rulebook.specs.Apply.{refuses, leads, refusal-at, led-at, event, known, argument-right, spot, own-refusal, accepted, refused, stepped, applied, Outcome}
 use Rattle.rulebook.specs.Names.{station-argument, name}
 use Rattle.block.specs.declared.line.Plan.{Plan}
@@ -56,7 +57,8 @@ pub record Accepted (c : ℕ) : Type 0 where
 abbrev pub AcceptedSomewhere : Type 0
 AcceptedSomewhere = (e : Event) → T (known e) → Accepted (e .code)
 
--- ---- an accepted event does what it says: it was not so before, and it is so after; x is the situation as own sees it
+-- ---- an accepted event does what it says: it was not so before, and it is so after; x is the situation as own sees it. A second that passes
+-- changes nothing where no count runs: it is left out here, and WatchRule says what it does
 pub record Deed : Type 0 where
   pub kind : Kind
   pub so : Spot → Situation → Bool
@@ -98,15 +100,18 @@ says c (d ∷ rest) at x = if eqb c (d .kind .code) then d .so at x else says c 
 abbrev pub so-at : Plan → Event → Kept → Bool
 so-at p e x = says (e .code) deeds (spot p e) (seen-from (spot p e .own) x)
 
+abbrev pub a-second-passed : ℕ → Bool
+a-second-passed code = eqb code (Second .code)
+
 abbrev pub EventsDo : Type 0
 EventsDo =
-    (p : Plan) → T (isPlan p) → (x : Kept) (e : Event) → T (sound p x) →
+    (p : Plan) → T (isPlan p) → (x : Kept) (e : Event) → T (sound p x) → T (not (a-second-passed (e .code))) →
     applied p x e .refusal ≡ 0 → (so-at p e x ≡ false) × (so-at p e (applied p x e .next) ≡ true)
 
--- so an accepted event changes the situation
+-- so an accepted event changes the situation, but for a second that passes
 abbrev pub EventsChange : Type 0
 EventsChange =
-    (p : Plan) → T (isPlan p) → (x : Kept) (e : Event) → T (sound p x) →
+    (p : Plan) → T (isPlan p) → (x : Kept) (e : Event) → T (sound p x) → T (not (a-second-passed (e .code))) →
     applied p x e .refusal ≡ 0 → applied p x e .next ≡ x → ⊥
 
 -- ---- "Pending is cleared by any orientation change, any accepted AFBLI/AFBLE, any section becoming occupied, and link loss."
@@ -169,7 +174,7 @@ OthersNeverMatter =
     let y = withStations (x .traffic .own) other x in
     (refuses Afbli at y ≡ refuses Afbli at x) × (refuses Afble at y ≡ refuses Afble at x)
 
--- ---- (02, Req 01) 13 and 15 tell apart what document 01 has as one check: its rows 14 and 15
+-- ---- (02, Req 01) 13 and 15 tell apart what document 01 has as one check: its rows 14 and 15, with the free line and the cleared count of Req 02
 module _ (at : Place) (x : Situation) where
   abbrev own : Station
   own = x .traffic .own
@@ -217,7 +222,7 @@ module _ (p : Plan) (x : Kept) (e : Event) where
       if eqb refusal-in-01 0 then accepted (led-at (kind-in-01 (kind-of (e .code))) (spot p e) x) else
       refused refusal-in-01 x
 
--- the refusal's number in document 01: 13 where it is 15 now
+-- the refusal's number where 13 and 15 are one check: 13 where it is 15 now
 abbrev pub number-in-01 : ℕ → ℕ
 number-in-01 r = if eqb r 15 then 13 else r
 
@@ -232,13 +237,19 @@ pub record LowestOccupied (p : Plan) (x : Kept) (k : ℕ) : Type 0 where
   pub is-occupied : (k belongs-to x .traffic .track .occupied) ≡ true
   pub none-below : (j : ℕ) → j < k → (j belongs-to x .traffic .track .occupied) ≡ false
 
+-- (02, Req 02) "a running count alone gives 13 with section 0"
+pub record CountAlone (x : Kept) (k : ℕ) : Type 0 where
+  pub nothing-occupied : none-occupied (x .traffic .track) ≡ true
+  pub running : count-runs (x .traffic .track .watch) ≡ true
+  pub section-0 : k ≡ 0
+
 abbrev pub ThirteenNames : Type 0
-ThirteenNames = (p : Plan) (x : Kept) (e : Event) → applied p x e .refusal ≡ 13 → LowestOccupied p x (name p x e 13)
+ThirteenNames = (p : Plan) (x : Kept) (e : Event) → applied p x e .refusal ≡ 13 → LowestOccupied p x (name p x e 13) ⊎ CountAlone x (name p x e 13)
 
 -- "15 is for a free track with an exit route at the other station", own being in
 pub record OtherRoute (x : Kept) (own : Name) : Type 0 where
   pub own-is-in : (station x own is-in) ≡ true
-  pub track-free : track-clear (x .traffic .track) ≡ true
+  pub track-is-free : track-free (x .traffic .track) ≡ true
   pub other-has-route : (station x (opposite own) has-exit-route) ≡ true
 
 abbrev pub FifteenMeans : Type 0
@@ -258,3 +269,92 @@ NineNames = (p : Plan) (x : Kept) (e : Event) → applied p x e .refusal ≡ 9 �
 -- every other number names nothing
 abbrev pub OthersNameNothing : Type 0
 OthersNameNothing = (p : Plan) (x : Kept) (e : Event) (r : ℕ) → (r ≡ 13 → ⊥) → (r ≡ 9 → ⊥) → name p x e r ≡ 0
+
+-- ---- (02, Req 02) "Add event 23, one second passed, argument 0, always accepted."
+abbrev pub one-second : Event
+one-second = event (Second .code) 0
+
+abbrev pub SecondAccepted : Type 0
+SecondAccepted = (p : Plan) → T (isPlan p) → (x : Kept) → T (sound p x) → applied p x one-second .refusal ≡ 0
+
+-- "with no count running a second changes nothing"
+abbrev pub SecondQuiet : Type 0
+SecondQuiet = (p : Plan) (x : Kept) → count-runs (x .traffic .track .watch) ≡ false → applied p x one-second .next ≡ x
+
+-- of all else it changes nothing; WatchRule says what becomes of mark and count
+abbrev pub SecondsTouchTheWatch : Type 0
+SecondsTouchTheWatch =
+    (p : Plan) (x : Kept) →
+    let y = applied p x one-second .next in
+    y ≡ withTrack (withWatch (y .traffic .track .watch) (x .traffic .track)) x
+
+-- "argument 0"
+abbrev pub SecondsArgument : Type 0
+SecondsArgument =
+    (p : Plan) → T (isPlan p) → (x : Kept) → T (sound p x) → (argument : ℕ) → (argument ≡ 0 → ⊥) → applied p x (event (Second .code) argument) ≡ refused 4 x
+
+-- ---- "While it runs the line is not free .. for automatic reorientation": a section that becomes occupied turns no orientation
+abbrev pub CountKeepsLine : Type 0
+CountKeepsLine = (x : Kept) → count-runs (x .traffic .track .watch) ≡ true → line-free x ≡ false
+
+abbrev pub CountKeepsOrientations : Type 0
+CountKeepsOrientations =
+    (p : Plan) (x : Kept) (section : ℕ) → count-runs (x .traffic .track .watch) ≡ true → (s : Name) →
+    station (applied p x (event (Occupied .code) section) .next) s .orientation ≡ station x s .orientation
+
+-- ---- the mark is set exactly by an unexpected occupation with no exit route, and goes exactly by the last second or an accepted exit route
+abbrev pub exit-route-set : ℕ → Bool
+exit-route-set code = eqb code (ExitNormal .code) or eqb code (ExitSpecial .code)
+
+-- "a section becomes occupied, unexpected by 01, while neither station has an exit route"
+module _ (p : Plan) (x : Kept) (e : Event) where
+  abbrev pub unexpected : Bool
+  unexpected = let at : Spot = spot p e in not (expected p (at .own) (at .section) (seen-from (at .own) x))
+
+  -- "an accepted exit route clears both"; "A new occupation .. keeps the mark"; "when that brings it to 0 the mark goes"
+  abbrev pub mark-after : Bool
+  mark-after =
+      if exit-route-set (e .code) then false else
+      if section-becoming-occupied (e .code) then x .traffic .track .watch .mark or (unexpected and not (any-exit-route x)) else
+      if a-second-passed (e .code) then x .traffic .track .watch .mark and not (eqb (x .traffic .track .watch .count) 1) else
+      x .traffic .track .watch .mark
+
+-- and what becomes of the count: "an accepted exit route clears both"; "A new occupation sets the count to 0"; "When the last section clears with
+-- that mark set and no exit route set, a count of 10 starts"; "Each second lowers it"; y is where it leads
+abbrev pub last-section-clears : ℕ → Kept → Bool
+last-section-clears code y = eqb code (Freed .code) and none-occupied (y .traffic .track)
+
+abbrev pub count-after : ℕ → Kept → Kept → ℕ
+count-after code x y =
+    if exit-route-set code or section-becoming-occupied code then 0 else
+    if last-section-clears code y and x .traffic .track .watch .mark and not (any-exit-route x) then 10 else
+    if a-second-passed code then x .traffic .track .watch .count - 1 else
+    x .traffic .track .watch .count
+
+abbrev pub WatchRule : Type 0
+WatchRule =
+    (p : Plan) (x : Kept) (e : Event) →
+    applied p x e .refusal ≡ 0 →
+    let y = applied p x e .next in
+    y .traffic .track .watch ≡ record { mark = mark-after p x e; count = count-after (e .code) x y }
+
+-- ---- the ten seconds: one section is occupied, the mark set, link up and no exit route set; it is freed, and then so many seconds pass
+abbrev pub seconds : ℕ → Plan → Kept → Kept
+seconds zero p x = x
+seconds (suc k) p x = applied p (seconds k p x) one-second .next
+
+pub record MarkedWithOneLeft (p : Plan) (x : Kept) (k : ℕ) : Type 0 where
+  pub is-plan : T (isPlan p)
+  pub is-sound : T (sound p x)
+  pub is-section : T (is-section p k)
+  pub is-marked : x .traffic .track .watch .mark ≡ true
+  pub link-up : x .traffic .link ≡ true
+  pub no-exit-route : any-exit-route x ≡ false
+  pub alone-occupied : x .traffic .track .occupied ≡ only k
+
+abbrev pub TenSeconds : Type 0
+TenSeconds =
+    (p : Plan) (x : Kept) (k : ℕ) → MarkedWithOneLeft p x k →
+    let freed = applied p x (event (Freed .code) k) .next in
+    ((j : ℕ) → j < 10 → (line-free (seconds j p freed) ≡ false) × (seconds j p freed .traffic .track .watch .count ≡ 10 - j))
+    × (line-free (seconds 10 p freed) ≡ true) × (seconds 10 p freed .traffic .track .watch .mark ≡ false)

@@ -12,7 +12,7 @@ use Rattle.block.specs.declared.line.Name.{Name}
 use Rattle.block.specs.declared.line.Name.the-variants.{StationA, StationB}
 use Rattle.block.specs.declared.event.Event.{Event}
 
--- ---- "13 .. names the lowest occupied one": a section by its number
+-- ---- "13 .. names the lowest occupied one": a section by its number; (02, Req 02) "a running count alone gives 13 with section 0"
 -- the lowest of n sections from k on that is in the set; 0 if none is
 unfoldable pub lowest-from : ℕ → ℕ → ℕ → ℕ
 lowest-from k zero m = 0

@@ -41,8 +41,8 @@ pub record Place : Type 0 where
   pub first : Bool
   -- that it becomes occupied is expected
   pub expected : Bool
-  -- no section of the line is occupied
-  pub track-clear : Bool
+  -- no section of the line is occupied, and no count runs
+  pub track-free : Bool
 
 abbrev pub place : Spot → Situation → Place
 place at x =
@@ -53,5 +53,5 @@ place at x =
       direction = at .direction;
       first = is-first (at .plan) (at .own) (at .section);
       expected = expected (at .plan) (at .own) (at .section) x;
-      track-clear = situation.track-clear (x .traffic .track);
+      track-free = situation.track-free (x .traffic .track);
     }

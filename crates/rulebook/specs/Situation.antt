@@ -23,9 +23,15 @@ pub record Station : Type 0 where
   pub bslg : Bool
   pub reminder : Bool
 
--- the track: "Occupied sections"
+-- (02, Req 02) what is kept of a stray occupation: "A mark is set when a section becomes occupied, unexpected by 01"; "a count of 10 starts"
+pub record Watch : Type 0 where
+  pub mark : Bool
+  pub count : ℕ
+
+-- the track: "Occupied sections", and the watch kept over it
 pub record Track : Type 0 where
   pub occupied : ℕ
+  pub watch : Watch
 
 -- what moves trains, as one of the stations sees it: own, and the other
 pub record Traffic : Type 0 where
@@ -166,9 +172,12 @@ withTrack t x = withTraffic (record { link = x .traffic .link; own = x .traffic 
 abbrev pub withOwn : Station → Situation → Situation
 withOwn s x = withStations s (x .traffic .other) x
 
--- the track with these sections occupied
+-- the track with these sections occupied, and with this watch kept over it
 abbrev pub withOccupied : ℕ → Track → Track
-withOccupied m t = record { occupied = m }
+withOccupied m t = record { occupied = m; watch = t .watch }
+
+abbrev pub withWatch : Watch → Track → Track
+withWatch w t = record { occupied = t .occupied; watch = w }
 
 abbrev pub withHeld : Held → Signals → Signals
 withHeld h s = record { held = h }
@@ -220,22 +229,32 @@ with-held d m x = withSignals (withHeld (with-held-towards d m (x .signals .held
 abbrev pub any-exit-route : Situation → Bool
 any-exit-route x = x .traffic .own has-exit-route or x .traffic .other has-exit-route
 
--- no section is occupied
-abbrev pub track-clear : Track → Bool
-track-clear t = eqb (t .occupied) sections.none
+abbrev pub none-occupied : Track → Bool
+none-occupied t = eqb (t .occupied) sections.none
+
+abbrev pub count-runs : Watch → Bool
+count-runs w = not (eqb (w .count) 0)
+
+-- no section is occupied; (02, Req 02) "While it runs the line is not free for refusal 13, for automatic reorientation and for reading 5."
+abbrev pub track-free : Track → Bool
+track-free t = none-occupied t and not (count-runs (t .watch))
 
 -- "The line is free when link is up, no section is occupied and neither station has an exit route."
 abbrev pub free-with : Bool → Situation → Bool
-free-with clear x = x .traffic .link and clear and not (any-exit-route x)
+free-with released x = x .traffic .link and released and not (any-exit-route x)
 
 abbrev pub line-free : Situation → Bool
-line-free x = free-with (track-clear (x .traffic .track)) x
+line-free x = free-with (track-free (x .traffic .track)) x
 
 abbrev pub one-out-one-in : Situation → Bool
 one-out-one-in x = (x .traffic .own is-out and x .traffic .other is-in) or (x .traffic .own is-in and x .traffic .other is-out)
 
 abbrev pub both-none : Situation → Bool
 both-none x = x .traffic .own is-none and x .traffic .other is-none
+
+-- (02, Req 02) "SI means both zero"
+abbrev pub no-watch : Watch
+no-watch = record { mark = false; count = 0 }
 
 -- "The fresh one: link 1, all else 0."
 abbrev pub blank : Station
@@ -244,6 +263,6 @@ blank = record { orientation = none; annulment = no-annulment; exit = no-route; 
 abbrev pub fresh : Kept
 fresh =
     record {
-      traffic = record { link = true; own = blank; other = blank; pending = nobody; track = record { occupied = sections.none } };
+      traffic = record { link = true; own = blank; other = blank; pending = nobody; track = record { occupied = sections.none; watch = no-watch } };
       signals = record { held = record { towardsb = sections.none; towardsa = sections.none } };
     }

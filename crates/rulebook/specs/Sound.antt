@@ -1,9 +1,10 @@
 -- "A situation is sound if all codes are in range and: .."
 use mathlib.Core.Bool.{Bool, not}
+use lib.Dec.{leb}
 use Rattle.words.specs.Words.{_and_, _or_, _implies_}
 use Rattle.sections.specs.Sections.{_belongs-to_, sections-up-to}
 use Rattle.block.specs.Line.{first-section, entrance}
-use Rattle.rulebook.specs.Situation.{Station, Situation, Kept, _is-out, _is-in, _is-none, _annulled, _under-AFBLI, _has-exit-route, one-out-one-in, both-none, held}
+use Rattle.rulebook.specs.Situation.{Station, Track, Situation, Kept, _is-out, _is-in, _is-none, _annulled, _under-AFBLI, _has-exit-route, any-exit-route, none-occupied, count-runs, one-out-one-in, both-none, held}
 use Rattle.block.specs.declared.line.Plan.{Plan}
 use Rattle.block.specs.declared.line.Direction.{Direction}
 use Rattle.block.specs.declared.line.Direction.the-variants.{TowardsA, TowardsB}
@@ -50,6 +51,26 @@ module _ (x : Situation) where
   abbrev pub stationsSound : Bool
   stationsSound = stationSound (x .traffic .own) and stationSound (x .traffic .other) and link-up-agrees and link-down-apart and pending-sound
 
+-- (02, Req 02) of the track, and of whether a station has an exit route
+module _ (t : Track) (routed : Bool) where
+  -- "A sound situation has a count of 0 to 10"
+  abbrev pub count-in-range : Bool
+  count-in-range = leb (t .watch .count) 10
+
+  -- "a count above 0 only with the mark set and no section occupied"
+  abbrev pub count-explained : Bool
+  count-explained = count-runs (t .watch) implies (t .watch .mark and none-occupied t)
+
+  -- "a mark only with no exit route and either a section occupied or a count above 0"
+  abbrev pub mark-explained : Bool
+  mark-explained = t .watch .mark implies (not routed and (not (none-occupied t) or count-runs (t .watch)))
+
+  abbrev pub watched-right : Bool
+  watched-right = count-in-range and count-explained and mark-explained
+
+abbrev pub watchSound : Situation → Bool
+watchSound x = watched-right (x .traffic .track) (any-exit-route x)
+
 module _ (p : Plan) (x : Kept) where
   -- "A set bit that names .. no section or an exit signal gives 2." BSLB holds block signals only
   abbrev pub held-sound : Direction → Bool
@@ -59,4 +80,4 @@ module _ (p : Plan) (x : Kept) where
   setsSound = sections-up-to (p .sections) (x .traffic .track .occupied) and held-sound TowardsB and held-sound TowardsA
 
   abbrev pub sound : Bool
-  sound = stationsSound x and setsSound
+  sound = stationsSound x and setsSound and watchSound x

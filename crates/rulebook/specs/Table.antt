@@ -8,7 +8,7 @@ use Rattle.words.specs.Words.{if_then_else_}
 use Rattle.rulebook.specs.Checks.{Row, ⟶_, _┃_, _when_}
 use Rattle.rulebook.specs.Place.{Place}
 use Rattle.rulebook.specs.Situation.{Situation}
-use Rattle.rulebook.specs.Events.{sobb, cobb, afbli, afble, dafbl, bilc, dilc, bslg, bslg-off, bslb, bslb-off, reminder, reminder-off, exit-normal, exit-special, exit-released, entry, entry-released, occupied, freed, link-lost, link-restored}
+use Rattle.rulebook.specs.Events.{sobb, cobb, afbli, afble, dafbl, bilc, dilc, bslg, bslg-off, bslb, bslb-off, reminder, reminder-off, exit-normal, exit-special, exit-released, entry, entry-released, occupied, freed, link-lost, link-restored, second}
 
 pub record Kind : Type 0 where
   pub code : ℕ
@@ -105,6 +105,10 @@ LinkLost = kind 21 nothing clears link-lost
 abbrev pub LinkRestored : Kind
 LinkRestored = kind 22 nothing keeps link-restored
 
+-- "Add event 23, one second passed, argument 0"
+abbrev pub Second : Kind
+Second = kind 23 nothing keeps second
+
 abbrev pub table : List Kind
 table =
     Sobb
@@ -129,6 +133,7 @@ table =
     ∷ Freed
     ∷ LinkLost
     ∷ LinkRestored
+    ∷ Second
     ∷ []
 
 -- "3 unknown code": no kind of the table

@@ -50,3 +50,7 @@ module _ (x : Packed) where
   pub four : (a b c d : ℕ) (v w s t : Bool) → a < 49 → b < 49 → c < 49 → d < 49 → {m n o r : ℕ} → m ≡ flagged word a v → n ≡ flagged m b w → o ≡ flagged n c s → r ≡ flagged o d t
       → unpacked (at-flags r) ≡ by (with-flag d t (with-flag c s (with-flag b w (with-flag a v (flags-of word)))))
   four a b c d v w s t h i j k {m} {n} {o} e f g l = ap by (then-flagged o d t k (then-flagged n c s j (then-flagged m b w i (then-flagged word a v h refl e) f) g) l)
+
+  pub five : (a b c d e : ℕ) (v w s t u : Bool) → a < 49 → b < 49 → c < 49 → d < 49 → e < 49 → {m n o p r : ℕ} → m ≡ flagged word a v → n ≡ flagged m b w → o ≡ flagged n c s → p ≡ flagged o d t → r ≡ flagged p e u
+      → unpacked (at-flags r) ≡ by (with-flag e u (with-flag d t (with-flag c s (with-flag b w (with-flag a v (flags-of word))))))
+  five a b c d e v w s t u h i j k l {m} {n} {o} {p} f g x y z = ap by (then-flagged p e u l (then-flagged o d t k (then-flagged n c s j (then-flagged m b w i (then-flagged word a v h refl f) g) x) y) z)

@@ -1,12 +1,14 @@
 -- Which bits of the words are fixed by the situation that they say. Assumes nothing.
 use mathlib.Core.Path.{_≡_, refl, ap}
 use Rattle.rulebook.specs.Situation.{Situation}
-use Rattle.situation.specs.Packed.{unpacked}
+use Rattle.situation.specs.Packed.{flags-of, unpacked}
 use Rattle.situation.specs.declared.Situation.{Situation as Packed}
 use Rattle.situation.specs.OpenBits.{Agree, OpenBits}
+use Rattle.situation.proofs.CountBits.{bits-same}
 
 agree : (x y : Packed) → unpacked x ≡ unpacked y → Agree x y
 agree x y e =
+    let count = bits-same 34 (flags-of (x .flags)) (flags-of (y .flags)) (ap (λ (z : Situation). z .traffic .track .watch .count) e) in
     record {
       flags = (
         ap (λ (z : Situation). z .traffic .own .orientation .out) e,
@@ -54,7 +56,10 @@ agree x y e =
                                                   ap (λ (z : Situation). z .traffic .pending .other) e,
                                                   (
                                                     ap (λ (z : Situation). z .traffic .link) e,
-                                                    tt,
+                                                    (
+                                                      ap (λ (z : Situation). z .traffic .track .watch .mark) e,
+                                                      (count .0, (count .1 .0, (count .1 .1 .0, (count .1 .1 .1, tt)))),
+                                                    ),
                                                   ),
                                                 ),
                                               ),
@@ -87,7 +92,7 @@ same : (x y : Packed) → Agree x y → unpacked x ≡ unpacked y
 same x y a =
     let f = a .flags in
     rw
-    (f .0, f .1 .0, f .1 .1 .0, f .1 .1 .1 .0, f .1 .1 .1 .1 .0, f .1 .1 .1 .1 .1 .0, f .1 .1 .1 .1 .1 .1 .0, f .1 .1 .1 .1 .1 .1 .1 .0, f .1 .1 .1 .1 .1 .1 .1 .1 .0, f .1 .1 .1 .1 .1 .1 .1 .1 .1 .0, f .1 .1 .1 .1 .1 .1 .1 .1 .1 .1 .0, f .1 .1 .1 .1 .1 .1 .1 .1 .1 .1 .1 .0, f .1 .1 .1 .1 .1 .1 .1 .1 .1 .1 .1 .1 .0, f .1 .1 .1 .1 .1 .1 .1 .1 .1 .1 .1 .1 .1 .0, f .1 .1 .1 .1 .1 .1 .1 .1 .1 .1 .1 .1 .1 .1 .0, f .1 .1 .1 .1 .1 .1 .1 .1 .1 .1 .1 .1 .1 .1 .1 .0, f .1 .1 .1 .1 .1 .1 .1 .1 .1 .1 .1 .1 .1 .1 .1 .1 .0, f .1 .1 .1 .1 .1 .1 .1 .1 .1 .1 .1 .1 .1 .1 .1 .1 .1 .0, f .1 .1 .1 .1 .1 .1 .1 .1 .1 .1 .1 .1 .1 .1 .1 .1 .1 .1 .0, f .1 .1 .1 .1 .1 .1 .1 .1 .1 .1 .1 .1 .1 .1 .1 .1 .1 .1 .1 .0, f .1 .1 .1 .1 .1 .1 .1 .1 .1 .1 .1 .1 .1 .1 .1 .1 .1 .1 .1 .1 .0, f .1 .1 .1 .1 .1 .1 .1 .1 .1 .1 .1 .1 .1 .1 .1 .1 .1 .1 .1 .1 .1 .0, f .1 .1 .1 .1 .1 .1 .1 .1 .1 .1 .1 .1 .1 .1 .1 .1 .1 .1 .1 .1 .1 .1 .0, a .occupied, a .heldb, a .helda)
+    (f .0, f .1 .0, f .1 .1 .0, f .1 .1 .1 .0, f .1 .1 .1 .1 .0, f .1 .1 .1 .1 .1 .0, f .1 .1 .1 .1 .1 .1 .0, f .1 .1 .1 .1 .1 .1 .1 .0, f .1 .1 .1 .1 .1 .1 .1 .1 .0, f .1 .1 .1 .1 .1 .1 .1 .1 .1 .0, f .1 .1 .1 .1 .1 .1 .1 .1 .1 .1 .0, f .1 .1 .1 .1 .1 .1 .1 .1 .1 .1 .1 .0, f .1 .1 .1 .1 .1 .1 .1 .1 .1 .1 .1 .1 .0, f .1 .1 .1 .1 .1 .1 .1 .1 .1 .1 .1 .1 .1 .0, f .1 .1 .1 .1 .1 .1 .1 .1 .1 .1 .1 .1 .1 .1 .0, f .1 .1 .1 .1 .1 .1 .1 .1 .1 .1 .1 .1 .1 .1 .1 .0, f .1 .1 .1 .1 .1 .1 .1 .1 .1 .1 .1 .1 .1 .1 .1 .1 .0, f .1 .1 .1 .1 .1 .1 .1 .1 .1 .1 .1 .1 .1 .1 .1 .1 .1 .0, f .1 .1 .1 .1 .1 .1 .1 .1 .1 .1 .1 .1 .1 .1 .1 .1 .1 .1 .0, f .1 .1 .1 .1 .1 .1 .1 .1 .1 .1 .1 .1 .1 .1 .1 .1 .1 .1 .1 .0, f .1 .1 .1 .1 .1 .1 .1 .1 .1 .1 .1 .1 .1 .1 .1 .1 .1 .1 .1 .1 .0, f .1 .1 .1 .1 .1 .1 .1 .1 .1 .1 .1 .1 .1 .1 .1 .1 .1 .1 .1 .1 .1 .0, f .1 .1 .1 .1 .1 .1 .1 .1 .1 .1 .1 .1 .1 .1 .1 .1 .1 .1 .1 .1 .1 .1 .0, f .1 .1 .1 .1 .1 .1 .1 .1 .1 .1 .1 .1 .1 .1 .1 .1 .1 .1 .1 .1 .1 .1 .1 .0, f .1 .1 .1 .1 .1 .1 .1 .1 .1 .1 .1 .1 .1 .1 .1 .1 .1 .1 .1 .1 .1 .1 .1 .1 .0, f .1 .1 .1 .1 .1 .1 .1 .1 .1 .1 .1 .1 .1 .1 .1 .1 .1 .1 .1 .1 .1 .1 .1 .1 .1 .0, f .1 .1 .1 .1 .1 .1 .1 .1 .1 .1 .1 .1 .1 .1 .1 .1 .1 .1 .1 .1 .1 .1 .1 .1 .1 .1 .0, f .1 .1 .1 .1 .1 .1 .1 .1 .1 .1 .1 .1 .1 .1 .1 .1 .1 .1 .1 .1 .1 .1 .1 .1 .1 .1 .1 .0, a .occupied, a .heldb, a .helda)
     refl
 
 pub open-bits : OpenBits

@@ -7,12 +7,12 @@ use mathlib.Core.List.{List, [], _∷_}
 use Rattle.situation.specs.Packed.{flags-of, unpacked}
 use Rattle.situation.specs.declared.Situation.{Situation as Packed}
 
--- own's, the other's, link
+-- own's, the other's, link, mark and count
 abbrev pub telling : List ℕ
 telling =
     0 ∷ 1 ∷ 2 ∷ 3 ∷ 4 ∷ 5 ∷ 6 ∷ 7 ∷ 8 ∷ 9 ∷ 10
     ∷ 16 ∷ 17 ∷ 18 ∷ 19 ∷ 20 ∷ 21 ∷ 22 ∷ 23 ∷ 24 ∷ 25 ∷ 26
-    ∷ 32
+    ∷ 32 ∷ 33 ∷ 34 ∷ 35 ∷ 36 ∷ 37
     ∷ []
 
 abbrev pub SameFlags : List ℕ → ℕ → ℕ → Type 0

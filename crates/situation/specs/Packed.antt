@@ -1,8 +1,8 @@
 -- A reader need not believe this file: which situation the words of the code are. Nothing about the block is defined here.
-use Prim.Native.Nat.{ℕ, _+_, _-_}
+use Prim.Native.Nat.{ℕ, _+_, _-_, _*_}
 use mathlib.Core.Bool.{Bool}
 use lib.Dec.{ltb}
-use Rattle.words.specs.Words.{if_then_else_}
+use Rattle.words.specs.Words.{if_then_else_, flag}
 use Rattle.sections.specs.Sections.{_belongs-to_, _with-section_, _without-section_}
 use Rattle.rulebook.specs.Situation.{Station, Situation}
 use Rattle.situation.specs.declared.Situation.{Situation as Packed}
@@ -32,7 +32,12 @@ station-from bit f =
 unfoldable pub station : PackedStation → Station
 station s = station-from 0 (flags-of (s .flags))
 
--- the situation that has these flags: bits 10 and 26 say whose SOBB is pending, bit 32 that link is up
+-- a number of four bits, from this one on
+abbrev pub count-from : ℕ → Flags → ℕ
+count-from bit f = flag (f bit) + 2 * (flag (f (bit + 1)) + 2 * (flag (f (bit + 2)) + 2 * flag (f (bit + 3))))
+
+-- the situation that has these flags: bits 10 and 26 say whose SOBB is pending, bit 32 that link is up, bit 33 that a mark is set, and the count
+-- stands from bit 34 on
 abbrev pub with-flags : Flags → Packed → Situation
 with-flags f x =
     record {
@@ -42,7 +47,7 @@ with-flags f x =
             own = station-from 0 f;
             other = station-from 16 f;
             pending = record { own = f 10; other = f 26 };
-            track = record { occupied = x .occupied };
+            track = record { occupied = x .occupied; watch = record { mark = f 33; count = count-from 34 f } };
           };
       signals = record { held = record { towardsb = x .signals .heldb; towardsa = x .signals .helda } };
     }

@@ -1,6 +1,6 @@
 // What is asked of a situation.
 ghost use mathlib.Core.Path.{_≡_};
-ghost use Rattle.rulebook.specs.Situation.{any-exit-route, track-clear, line-free, one-out-one-in, turnedRound, seen-from, held, station as Block·station};
+ghost use Rattle.rulebook.specs.Situation.{any-exit-route, track-free, line-free, one-out-one-in, turnedRound, seen-from, held, station as Block·station};
 ghost use Rattle.situation.specs.Packed.{station, unpacked};
 use super::Situation;
 use super::Station;
@@ -56,10 +56,11 @@ impl Situation {
         has_flag(self.flags, OTHER_ASKS)
     }
 
-    pub fn track_clear(self) -> bool
-        ensures { λ r. ⌜ r ≡ track-clear (unpacked self .traffic .track) ⌝ }
+    // No section is occupied, and no count runs.
+    pub fn track_free(self) -> bool
+        ensures { λ r. ⌜ r ≡ track-free (unpacked self .traffic .track) ⌝ }
     {
-        self.occupied == 0
+        (self.occupied == 0) & !self.count_runs()
     }
 
     pub fn any_exit_route(self) -> bool
@@ -70,10 +71,12 @@ impl Situation {
         own.routed() | other.routed()
     }
 
+    // The flags are asked together.
     pub fn line_free(self) -> bool
         ensures { λ r. ⌜ r ≡ line-free (unpacked self) ⌝ }
     {
-        self.linked() & self.track_clear() & !self.any_exit_route()
+        let flags_allow = self.linked() & !self.count_runs() & !self.any_exit_route();
+        (self.occupied == 0) & flags_allow
     }
 
     pub fn one_out_one_in(self) -> bool

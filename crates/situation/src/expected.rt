@@ -10,7 +10,7 @@ use sections::has;
 
 impl Situation {
     // The section before k is occupied; across the frontier that counts only with link up.
-    fn follows(self, plan: Plan, k: u8, d: Direction) -> bool
+    pub(crate) fn follows(self, plan: Plan, k: u8, d: Direction) -> bool
         ensures { λ r. ⌜ r ≡ follows plan (unpacked self) k d ⌝ }
     {
         let before = d.before(k);

@@ -37,6 +37,17 @@ pub(crate) const OTHER_ASKS: u8 = 26;
 
 pub(crate) const LINK: u8 = 32;
 
+pub(crate) const MARK: u8 = 33;
+
+// The count's four bits, from the lowest.
+pub(crate) const COUNT_1: u8 = 34;
+
+pub(crate) const COUNT_2: u8 = 35;
+
+pub(crate) const COUNT_4: u8 = 36;
+
+pub(crate) const COUNT_8: u8 = 37;
+
 pub(crate) fn has_flag(flags: u64, k: u8) -> bool
     ensures { λ r. ⌜ r ≡ (k belongs-to flags) ⌝ }
 {

@@ -7,6 +7,7 @@ pub mod flags;
 pub mod methods;
 pub mod pending;
 pub mod stations;
+pub mod watch;
 
 // The signals held towards B and towards A, by their sections.
 pub struct Signals {

@@ -1,8 +1,10 @@
 // Where an accepted event leads, own being the station that the event names: a method for each event code, and the next situation, whole.
 ghost use mathlib.Core.Path.{_≡_};
+ghost use Rattle.sections.specs.Sections.{_with-section_};
+ghost use Rattle.rulebook.specs.Situation.{withTrack};
 ghost use Rattle.rulebook.specs.Place.{place};
-ghost use Rattle.rulebook.specs.Events.{annul, exit, taken};
-ghost use Rattle.rulebook.specs.Table.{Sobb, Cobb, Afbli, Afble, Dafbl, Bilc, Dilc, Bslg, BslgOff, Bslb, BslbOff, Reminder, ReminderOff, ExitNormal, ExitSpecial, ExitReleased, Entry, EntryReleased, Occupied, Freed, LinkLost, LinkRestored};
+ghost use Rattle.rulebook.specs.Events.{annul, exit, watch-taken, taken};
+ghost use Rattle.rulebook.specs.Table.{Sobb, Cobb, Afbli, Afble, Dafbl, Bilc, Dilc, Bslg, BslgOff, Bslb, BslbOff, Reminder, ReminderOff, ExitNormal, ExitSpecial, ExitReleased, Entry, EntryReleased, Occupied, Freed, LinkLost, LinkRestored, Second};
 ghost use Rattle.rulebook.specs.Apply.{leads};
 ghost use Rattle.situation.specs.Packed.{unpacked};
 use super::Situation;
@@ -158,11 +160,11 @@ impl Situation {
         self.with_reminder(false)
     }
 
-    // If own is in, own becomes out and the other in. With AFBLE no orientation is written.
+    // If own is in, own becomes out and the other in. With AFBLE no orientation is written. Mark and count are cleared.
     fn exit(self, at: Spot, route: Route) -> Situation
         ensures { λ r. ⌜ unpacked r ≡ exit (place at (unpacked self)) (unpacked self) route ⌝ }
     {
-        let next = self.with_exit(route);
+        let next = self.with_watch(false, 0).with_exit(route);
         let own = self.own();
         let turns = own.is_in() & !own.under_afble();
         if turns {
@@ -201,12 +203,23 @@ impl Situation {
         self.with_entry(false)
     }
 
+    // The section is occupied. The count goes to 0; a mark stays, and is set by a stray occupation.
+    fn watched(self, at: Spot) -> Situation
+        ensures { λ r. ⌜ unpacked r ≡ withTrack (record { occupied = unpacked self .traffic .track .occupied with-section at .section; watch = watch-taken (place at (unpacked self)) (unpacked self) }) (unpacked self) ⌝ }
+    {
+        let next = self.with_occupied(with_section(self.occupied, at.section));
+        if self.marked() {
+            return next.uncounted();
+        }
+        next.with_watch(self.stray(at), 0)
+    }
+
     // The section is occupied. Unexpected, own's annulment goes, but for AFBLE on own's first section.
     fn taken(self, at: Spot) -> Situation
         ensures { λ r. ⌜ unpacked r ≡ taken (place at (unpacked self)) (unpacked self) ⌝ }
     {
         let own = self.own();
-        let next = self.with_occupied(with_section(self.occupied, at.section));
+        let next = self.watched(at);
         if !own.annulled() {
             return next;
         }
@@ -239,10 +252,20 @@ impl Situation {
         next
     }
 
+    // When the last section clears with the mark set and no exit route set, a count of 10 starts.
     pub fn freed(mut self, at: Spot) -> Situation
         ensures { λ r. ⌜ unpacked r ≡ leads Freed at (unpacked self) ⌝ }
     {
-        self.with_occupied(without_section(self.occupied, at.section))
+        let left = without_section(self.occupied, at.section);
+        let next = self.with_occupied(left);
+        if !self.marked() {
+            return next;
+        }
+        let starts = (left == 0) & !self.any_exit_route();
+        if starts {
+            return next.with_watch(true, 10);
+        }
+        next
     }
 
     pub fn link_lost(mut self, at: Spot) -> Situation
@@ -259,5 +282,17 @@ impl Situation {
             return next;
         }
         next.reoriented(NONE, NONE).settled(false, self)
+    }
+
+    // Each second lowers the count; when that brings it to 0 the mark goes; with no count running a second changes nothing.
+    pub fn second(mut self, at: Spot) -> Situation
+        ensures { λ r. ⌜ unpacked r ≡ leads Second at (unpacked self) ⌝ }
+    {
+        let count = self.count();
+        if count == 0 {
+            return self;
+        }
+        let mark = self.marked() & (count != 1);
+        self.with_watch(mark, count - 1)
     }
 }

@@ -8,10 +8,11 @@ use lib.Dec.{eqb}
 use lib.Pow.{shr-shr}
 use Rattle.sections.specs.Sections.{_belongs-to_}
 use Rattle.sections.proofs.SetsOfSets.{low-bit}
-use Rattle.situation.specs.Packed.{unpacked}
+use Rattle.situation.specs.Packed.{unpacked, flags-of, count-from}
+use Rattle.situation.proofs.CountBits.{count-is}
 use Rattle.records.specs.Situation.{Codes, in-range, said}
 use Rattle.records.proofs.CodesLaws.{codes-right}
-use Rattle.situations.specs.InWords.{StationCodes, bits-of, station-word, flags-word, codes-A, codes-B, in-words}
+use Rattle.situations.specs.InWords.{StationCodes, bits-of, station-word, line-word, flags-word, codes-A, codes-B, in-words}
 
 -- ---- a code below a number, and a flag: its bits, and then those of the number
 one-is-odd : (a : ℕ) → a ≤ 2 → eqb (a % 2) 1 ≡ eqb a 1
@@ -157,10 +158,15 @@ module _ (a b l : ℕ) (low : a < 65536) (mid : b < 65536) where
       let e : (b + 65536 * l) % 2 ^ 16 ≡ b = omega arith in
       bit-from whole 16 (b + 65536 * l) upper j ∙ ap (λ (n : ℕ). eqb n 1) (sym (low-bit (b + 65536 * l) 16 j h) ∙ ap (λ (n : ℕ). n / 2 ^ j % 2) e)
 
-  pub link-bit : l ≤ 1 → (32 belongs-to whole) ≡ eqb l 1
-  link-bit h =
-      let e : (b + 65536 * l) / 2 ^ 16 % 2 ≡ l = omega arith in
-      bit-from whole 16 (b + 65536 * l) upper 16 ∙ ap (λ (n : ℕ). eqb n 1) e
+  from-line : whole / 2 ^ 32 ≡ l
+  from-line = sym (shr-shr whole 16 16) ∙ ap (λ (n : ℕ). n / 2 ^ 16) upper ∙ omega arith
+
+  -- the bits of the line
+  pub line-bit : (j : ℕ) → ((32 + j) belongs-to whole) ≡ (j belongs-to l)
+  line-bit = bit-from whole 32 l from-line
+
+  pub from-count : (link mark count : ℕ) → link ≤ 1 → mark ≤ 1 → l ≡ line-word link mark count → whole / 2 ^ 34 ≡ count
+  from-count link mark count h k e = past-flag whole 33 mark count k (past-flag whole 32 link (mark + 2 * count) h (from-line ∙ e))
 
 -- ---- the codes
 module _ (c : Codes) (r : in-range c ≡ true) where
@@ -204,21 +210,34 @@ module _ (c : Codes) (r : in-range c ≡ true) where
   mid : other < 65536
   mid = word-small (codes-B c) small-B
 
-  of-own : (j : ℕ) → j < 16 → {v : Bool} → (j belongs-to own) ≡ v → (j belongs-to flags-word own other (c .link)) ≡ v
-  of-own j h e = own-bit own other (c .link) low mid j h ∙ e
+  abbrev line : ℕ
+  line = line-word (c .link) (c .mark) (c .count)
 
-  of-other : (j : ℕ) → j < 16 → {v : Bool} → (j belongs-to other) ≡ v → ((16 + j) belongs-to flags-word own other (c .link)) ≡ v
-  of-other j h e = other-bit own other (c .link) low mid j h ∙ e
+  of-own : (j : ℕ) → j < 16 → {v : Bool} → (j belongs-to own) ≡ v → (j belongs-to flags-word own other line) ≡ v
+  of-own j h e = own-bit own other line low mid j h ∙ e
+
+  of-other : (j : ℕ) → j < 16 → {v : Bool} → (j belongs-to other) ≡ v → ((16 + j) belongs-to flags-word own other line) ≡ v
+  of-other j h e = other-bit own other line low mid j h ∙ e
+
+  count-said : count-from 34 (flags-of (flags-word own other line)) ≡ c .count
+  count-said =
+      let k = codes-right c r in
+      let from = from-count own other line low mid (c .link) (c .mark) (c .count) (leb-true (c .link) 1 (k .link)) (leb-true (c .mark) 1 (k .watch .0)) refl in
+      count-is (flags-word own other line) ∙ omega (arith, from, leb-true (c .count) 10 (k .watch .1))
 
   pub in-words-say : unpacked (in-words c) ≡ said c
   unfolding in-words said
   in-words-say =
       let k = codes-right c r in
       let pending = leb-true (c .pending) 2 (k .pending) in
+      let link = leb-true (c .link) 1 (k .link) in
+      let mark = leb-true (c .mark) 1 (k .watch .0) in
       let a = codes-A c in
       let b = codes-B c in
       rw (
-        link-bit own other (c .link) low mid (leb-true (c .link) 1 (k .link)),
+        line-bit own other line low mid 0 ∙ flag-one (c .link) (c .mark + 2 * c .count) link,
+        line-bit own other line low mid 1 ∙ bit-from line 1 (c .mark + 2 * c .count) (past-flag line 0 (c .link) (c .mark + 2 * c .count) link (omega arith)) 0 ∙ flag-one (c .mark) (c .count) mark,
+        count-said,
         of-own 0 (omega arith) (out a small-A),
         of-own 1 (omega arith) (inward a small-A),
         of-own 2 (omega arith) (afbli a small-A),

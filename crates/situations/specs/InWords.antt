@@ -26,9 +26,13 @@ bits-of c = bits-word (c .bilc) (c .bslg) (c .reminder) (c .asks)
 abbrev pub station-word : StationCodes → ℕ
 station-word c = codes-word (c .orientation) (c .annulment) (c .exit) (c .entry) (bits-of c)
 
--- own's flags, the other's from bit 16 on, the link's bit 32
+-- the link, the mark and the count
+abbrev pub line-word : ℕ → ℕ → ℕ → ℕ
+line-word link mark count = link + 2 * (mark + 2 * count)
+
+-- own's flags, the other's from bit 16 on, the line's from bit 32 on
 abbrev pub flags-word : ℕ → ℕ → ℕ → ℕ
-flags-word own other link = own + 65536 * (other + 65536 * link)
+flags-word own other line = own + 65536 * (other + 65536 * line)
 
 module _ (c : Codes) where
   abbrev pub codes-A : StationCodes
@@ -57,7 +61,7 @@ module _ (c : Codes) where
 
   unfoldable pub in-words : Packed
   in-words = record {
-    flags = flags-word (station-word codes-A) (station-word codes-B) (c .link);
+    flags = flags-word (station-word codes-A) (station-word codes-B) (line-word (c .link) (c .mark) (c .count));
     occupied = sections-of (c .occupied);
     signals = record { heldb = sections-of (c .heldb); helda = sections-of (c .helda) };
   }

@@ -1,7 +1,7 @@
 // A plan and a situation in it, judged: 0 where it is one, else the refusal. A test for each clause of the document.
 ghost use mathlib.Core.Path.{_≡_};
 ghost use Rattle.words.specs.Words.{_and_};
-ghost use Rattle.rulebook.specs.Sound.{stationSound, link-up-agrees, link-down-apart, may-ask, pending-sound, setsSound, sound};
+ghost use Rattle.rulebook.specs.Sound.{stationSound, link-up-agrees, link-down-apart, may-ask, pending-sound, setsSound, watchSound, sound};
 ghost use Rattle.rulebook.specs.Judged.{judged};
 ghost use Rattle.situation.specs.Packed.{station, unpacked};
 use block::line::Direction;
@@ -85,9 +85,27 @@ fn sets_sound(plan: Plan, x: Situation) -> bool
     !has(helda, plan.sections as u16)
 }
 
+// A count up to 10, above 0 only with the mark set and no section occupied; a mark only with no exit route and either a section occupied or a
+// count above 0. Where there is neither, nothing is asked.
+fn watch_sound(x: Situation) -> bool
+    ensures { λ r. ⌜ r ≡ watchSound (unpacked x) ⌝ }
+{
+    if x.marked() | x.count_runs() {
+        let none = x.occupied == 0;
+        let count_in_range = x.count() <= 10;
+        let count_explained = !x.count_runs() | (x.marked() & none);
+        let mark_explained = !x.marked() | (!x.any_exit_route() & (!none | x.count_runs()));
+        return count_in_range & count_explained & mark_explained;
+    }
+    true
+}
+
 fn sound(plan: Plan, x: Situation) -> bool
     ensures { λ r. ⌜ r ≡ sound plan (unpacked x) ⌝ }
 {
+    if !watch_sound(x) {
+        return false;
+    }
     if !sets_sound(plan, x) {
         return false;
     }

@@ -57,3 +57,9 @@ and-true false = refl
 pub and-false : (a : Bool) → (a and false) ≡ false
 and-false true = refl
 and-false false = refl
+
+pub or-turned : (a b : Bool) → (a or b) ≡ (b or a)
+or-turned true true = refl
+or-turned true false = refl
+or-turned false true = refl
+or-turned false false = refl

@@ -1,5 +1,5 @@
 use mathlib.Core.Path.{ap, _∙_}
-use Rattle.rulebook.specs.Table.{section, Sobb, Cobb, Afbli, Afble, Dafbl, Bilc, Dilc, Bslg, BslgOff, Bslb, BslbOff, Reminder, ReminderOff, ExitNormal, ExitSpecial, ExitReleased, Entry, EntryReleased, Occupied, Freed, LinkLost, LinkRestored}
+use Rattle.rulebook.specs.Table.{section, Sobb, Cobb, Afbli, Afble, Dafbl, Bilc, Dilc, Bslg, BslgOff, Bslb, BslbOff, Reminder, ReminderOff, ExitNormal, ExitSpecial, ExitReleased, Entry, EntryReleased, Occupied, Freed, LinkLost, LinkRestored, Second}
 use Rattle.rulebook.specs.Apply.{leads, led-at, spot-named}
 use Rattle.block.specs.declared.event.Spot.{Spot}
 use Rattle.situation.specs.Packed.{unpacked}
@@ -13,6 +13,8 @@ pub next-spec : {M : Type 1} → statement M
 next-spec =
     tie.close
     (tie.spec
+    (λ c κs. search needs)
+    (λ c κs. search needs)
     (λ c κs. search needs)
     (λ c κs. search needs)
     (λ c κs. search needs)
@@ -81,4 +83,5 @@ next-spec =
     (λ c. let a = c .before .before .before .before .before .args in led-as (a .plan) (unpacked (a .x)) (a .event) (c .before .before .match .keys20) (freed-led (spot-named (a .plan) section (a .event .argument)) (unpacked (a .x)) (c .freed .ensures ∙ ap (λ (s : Spot). leads Freed s (unpacked (a .x))) (c .before .at-owner4 .ensures))))
     (λ c. let a = c .before .before .before .before .before .args in led-as (a .plan) (unpacked (a .x)) (a .event) (c .before .before .match .keys21) (led-seen (a .plan) (unpacked (a .x)) (a .event) (c .before .before .before .before .at-station .ensures) (c .before .before .before .seen-from .ensures) LinkLost (c .before .link-lost .ensures) (c .seen-from18 .ensures)))
     (λ c. let a = c .before .before .before .before .before .args in led-as (a .plan) (unpacked (a .x)) (a .event) (c .before .before .match .keys22) (led-seen (a .plan) (unpacked (a .x)) (a .event) (c .before .before .before .before .at-station .ensures) (c .before .before .before .seen-from .ensures) LinkRestored (c .before .link-restored .ensures) (c .seen-from19 .ensures)))
-    (λ c. let a = c .before .before .before .args in led-unknown (a .plan) (unpacked (a .x)) (a .event) 22 tt (c .match .rest)))
+    (λ c. let a = c .before .before .before .before .before .args in led-as (a .plan) (unpacked (a .x)) (a .event) (c .before .before .match .keys23) (led-seen (a .plan) (unpacked (a .x)) (a .event) (c .before .before .before .before .at-station .ensures) (c .before .before .before .seen-from .ensures) Second (c .before .second .ensures) (c .seen-from20 .ensures)))
+    (λ c. let a = c .before .before .before .args in led-unknown (a .plan) (unpacked (a .x)) (a .event) 23 tt (c .match .rest)))

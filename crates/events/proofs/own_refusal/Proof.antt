@@ -1,5 +1,5 @@
 use mathlib.Core.Path.{ap, _∙_}
-use Rattle.rulebook.specs.Table.{section, Sobb, Cobb, Afbli, Afble, Dafbl, Bilc, Dilc, Bslg, BslgOff, Bslb, BslbOff, Reminder, ReminderOff, ExitNormal, ExitSpecial, ExitReleased, Entry, EntryReleased, Occupied, Freed, LinkLost, LinkRestored}
+use Rattle.rulebook.specs.Table.{section, Sobb, Cobb, Afbli, Afble, Dafbl, Bilc, Dilc, Bslg, BslgOff, Bslb, BslbOff, Reminder, ReminderOff, ExitNormal, ExitSpecial, ExitReleased, Entry, EntryReleased, Occupied, Freed, LinkLost, LinkRestored, Second}
 use Rattle.rulebook.specs.Apply.{refuses, spot-named}
 use Rattle.block.specs.declared.event.Spot.{Spot}
 use Rattle.situation.specs.Packed.{unpacked}
@@ -13,6 +13,7 @@ pub own-refusal-spec : {M : Type 1} → statement M
 own-refusal-spec =
     tie.close
     (tie.spec
+    (λ c κs. search needs)
     (λ c κs. search needs)
     (λ c κs. search needs)
     (λ c κs. search needs)
@@ -63,4 +64,5 @@ own-refusal-spec =
     (λ c. let a = c .before .before .before .before .before .args in refused-as (a .plan) (unpacked (a .x)) (a .event) (c .before .before .match .keys20) (freed-refused (spot-named (a .plan) section (a .event .argument)) (unpacked (a .x)) (c .freed-refusal .ensures ∙ ap (λ (s : Spot). refuses Freed s (unpacked (a .x))) (c .before .at-owner4 .ensures))))
     (λ c. let a = c .before .before .before .before .args in refused-as (a .plan) (unpacked (a .x)) (a .event) (c .before .match .keys21) (refused-seen (a .plan) (unpacked (a .x)) (a .event) (c .before .before .before .at-station .ensures) (c .before .before .seen-from .ensures) LinkLost (c .link-lost-refusal .ensures)))
     (λ c. let a = c .before .before .before .before .args in refused-as (a .plan) (unpacked (a .x)) (a .event) (c .before .match .keys22) (refused-seen (a .plan) (unpacked (a .x)) (a .event) (c .before .before .before .at-station .ensures) (c .before .before .seen-from .ensures) LinkRestored (c .link-restored-refusal .ensures)))
-    (λ c. let a = c .before .before .before .args in refused-unknown (a .plan) (unpacked (a .x)) (a .event) 22 tt (c .match .rest)))
+    (λ c. let a = c .before .before .before .before .args in refused-as (a .plan) (unpacked (a .x)) (a .event) (c .before .match .keys23) (refused-seen (a .plan) (unpacked (a .x)) (a .event) (c .before .before .before .at-station .ensures) (c .before .before .seen-from .ensures) Second (c .second-refusal .ensures)))
+    (λ c. let a = c .before .before .before .args in refused-unknown (a .plan) (unpacked (a .x)) (a .event) 23 tt (c .match .rest)))

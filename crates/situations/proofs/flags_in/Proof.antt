@@ -9,7 +9,7 @@ unfolding in-words codes-at
 returns c =
     let others = c .before .before in
     let own = others .before .before .before .before .before .before .before .before .before .before in
-    rw (c .flags-word .ensures, others .station-word2 .ensures .0, others .before .before .before .before .before .bits-word2 .ensures .0, own .station-word .ensures .0, own .before .before .before .before .before .bits-word .ensures .0)
+    rw (c .flags-word .ensures, c .before .line-in .ensures .0, others .station-word2 .ensures .0, others .before .before .before .before .before .bits-word2 .ensures .0, own .station-word .ensures .0, own .before .before .before .before .before .bits-word .ensures .0)
 
 pub flags-in-spec : {M : Type 1} → statement M
-flags-in-spec = tie.close (tie.spec (λ c. search needs) (λ c. search needs) (λ c. search needs) (λ c. search needs) (λ c κs. search needs) (λ c. search needs) (λ c. search needs) (λ c. search needs) (λ c. search needs) (λ c κs. search needs) (λ c. search needs) (λ c. search needs) (λ c. search needs) (λ c. search needs) (λ c κs. search needs) (λ c. search needs) (λ c. search needs) (λ c. search needs) (λ c. search needs) (λ c κs. search needs) (λ c. search needs) (λ c κs. search needs) returns)
+flags-in-spec = tie.close (tie.spec (λ c. search needs) (λ c. search needs) (λ c. search needs) (λ c. search needs) (λ c κs. search needs) (λ c. search needs) (λ c. search needs) (λ c. search needs) (λ c. search needs) (λ c κs. search needs) (λ c. search needs) (λ c. search needs) (λ c. search needs) (λ c. search needs) (λ c κs. search needs) (λ c. search needs) (λ c. search needs) (λ c. search needs) (λ c. search needs) (λ c κs. search needs) (λ c κs. search needs) (λ c κs. search needs) returns)

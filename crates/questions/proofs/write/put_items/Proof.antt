@@ -6,7 +6,8 @@ use borrow.Author.Needs.{needs}
 use lib.Seq.{length-take-le}
 use lib.ListN.{length, take}
 use Rattle.forms.specs.Form.{laid}
-use Rattle.questions.proofs.Laid.{onto, copied}
+use Rattle.forms.proofs.Copied.{copied}
+use Rattle.questions.proofs.Laid.{onto}
 use Rattle.questions.proofs.write.put_items.Statement.{statement}
 use Rattle.questions.proofs.write.put_items.Tie as tie
 
