@@ -45,7 +45,12 @@ struct lent {
 
 static struct lent lent[SLICES];
 
-static u8 guard(usize at) { return (u8)(at * 167 >> 1) ^ 0x5a; }
+/* The guard bytes, by their place in a memory. */
+static u8 guards[LARGE];
+
+static void make_guards(void) {
+    for (usize at = 0; at < LARGE; at++) guards[at] = (u8)(at * 167 >> 1) ^ 0x5a;
+}
 
 static u8 *pages(usize size) {
     u8 *whole = mmap(0, size + 2 * PAGE, 0, 0x02 | 0x20, -1, 0);
@@ -58,13 +63,13 @@ static void make_all(void) {
         lent[k].size = k == ROOM ? LARGE : SMALL;
         lent[k].memory = pages(lent[k].size);
         lent[k].start = lent[k].length = 0;
-        for (usize at = 0; at < lent[k].size; at++) lent[k].memory[at] = guard(at);
+        memcpy(lent[k].memory, guards, lent[k].size);
     }
 }
 
 static void lend(struct lent *to, const u8 *bytes, usize length, u8 placement) {
     if (length > to->size) _exit(4);
-    for (usize at = to->start; at < to->start + to->length; at++) to->memory[at] = guard(at);
+    memcpy(to->memory + to->start, guards + to->start, to->length);
     usize last = to->size - length;
     to->start = placement == 255 || placement > last ? last : placement;
     to->length = length;
@@ -78,11 +83,8 @@ static int guarded(const struct lent *one, usize far) {
     usize end = one->start + one->length;
     usize from = one->start > far ? one->start - far : 0;
     usize to = one->size - end > far ? end + far : one->size;
-    for (usize at = from; at < one->start; at++)
-        if (one->memory[at] != guard(at)) return 0;
-    for (usize at = end; at < to; at++)
-        if (one->memory[at] != guard(at)) return 0;
-    return 1;
+    return memcmp(one->memory + from, guards + from, one->start - from) == 0 &&
+           memcmp(one->memory + end, guards + end, to - end) == 0;
 }
 
 static int read_all(u8 *to, usize length) {
@@ -160,6 +162,7 @@ static void run_case(const u8 **in, const u8 *end, u8 **out) {
 int main(void) {
     u8 *batch = pages(BATCH), *reply = pages(BATCH);
     u32 length;
+    make_guards();
     make_all();
     while (read_all((u8 *)&length, 4)) {
         if (length > BATCH || !read_all(batch, length)) return 7;

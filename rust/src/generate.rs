@@ -2,7 +2,7 @@
 //! numbers, right ones and damaged ones.
 
 use crate::plain::key::{SLOT, START};
-use crate::plain::situation::{IN, LENGTH, NONE, OUT};
+use crate::plain::situation::{IN, LENGTH, NONE, OUT, SHORT_LENGTH, TEN_SECONDS};
 use crate::plain::{Event, Line, Parts, Question, Reading, Situation, events, readings, records};
 use crate::random::Random;
 
@@ -37,7 +37,7 @@ fn stations(r: &mut Random) -> u8 {
     if r.once_in(2) { 0 } else { r.below(4) as u8 }
 }
 
-/// Fields in range, most of them as soundness has them.
+/// Fields in range, most of them as soundness has them; no mark.
 fn in_range(r: &mut Random, line: &Line) -> Situation {
     let link = u8::from(!r.once_in(4));
     let orientation = match r.below(8) {
@@ -70,9 +70,17 @@ fn in_range(r: &mut Random, line: &Line) -> Situation {
         occupied: set(r, all),
         held_towards_b: if r.once_in(2) { 0 } else { set(r, all & !1) },
         held_towards_a: if r.once_in(2) { 0 } else { set(r, all & !line.last()) },
+        mark: 0,
+        count: 0,
     }
 }
 
+/// The situation without mark and count, which is sound if it was.
+fn unmarked(situation: Situation) -> Situation {
+    Situation { mark: 0, count: 0, ..situation }
+}
+
+/// A sound situation without the mark.
 pub fn sound(r: &mut Random, line: &Line) -> Situation {
     for _ in 0..64 {
         let situation = in_range(r, line);
@@ -104,41 +112,102 @@ pub fn in_use(r: &mut Random, line: &Line) -> Situation {
 }
 
 /// A situation that accepted events lead to, from the fresh one or a sound
-/// one.
+/// one, with no mark left by any of them.
 pub fn reached(r: &mut Random, line: &Line) -> Situation {
     let mut situation = if r.once_in(2) { Situation::FRESH } else { sound(r, line) };
     for _ in 0..r.below(24) {
         let _ = situation.apply(line, event(r, line));
+        situation = unmarked(situation);
     }
     situation
 }
 
-/// A sound situation, one way or the other.
+/// A sound situation without the mark, one way or the other.
 pub fn sound_or_reached(r: &mut Random, line: &Line) -> Situation {
     if r.once_in(2) { sound(r, line) } else { reached(r, line) }
 }
 
-/// The 19 bytes of a situation: sound, in range, changed in some bytes, any
+/// A sound situation with no section occupied, no exit route and no mark. What
+/// would refuse an exit route is mostly away.
+pub fn empty_line(r: &mut Random, line: &Line) -> Situation {
+    let situation = if r.once_in(4) { sound(r, line) } else { in_use(r, line) };
+    Situation { occupied: 0, exit: [0; 2], ..situation }
+}
+
+/// A sound situation on which the count runs, at its ends more often.
+pub fn counting(r: &mut Random, line: &Line) -> Situation {
+    let count = match r.below(4) {
+        0 => 1,
+        1 => TEN_SECONDS,
+        2 => r.from(2, 4) as u8,
+        _ => r.from(1, TEN_SECONDS.into()) as u8,
+    };
+    Situation { mark: 1, count, ..empty_line(r, line) }
+}
+
+/// A sound situation with the mark: the count runs, or one or some sections
+/// are occupied.
+pub fn marked(r: &mut Random, line: &Line) -> Situation {
+    if r.once_in(2) {
+        return counting(r, line);
+    }
+    let mut occupied = 1 << (section(r, line) - 1);
+    if r.once_in(2) {
+        occupied |= set(r, line.all());
+    }
+    Situation { occupied, mark: 1, ..empty_line(r, line) }
+}
+
+/// A situation that accepted events lead to, seconds among them, with the mark
+/// if they leave it.
+pub fn reached_in_time(r: &mut Random, line: &Line) -> Situation {
+    let mut situation = if r.once_in(2) { empty_line(r, line) } else { marked(r, line) };
+    for _ in 0..r.below(24) {
+        let event = event_in_time(r, line, &situation);
+        let _ = situation.apply(line, event);
+    }
+    situation
+}
+
+/// A situation without the mark: sound, in range, changed in some bytes, of any
 /// bytes.
-pub fn situation_body(r: &mut Random, line: &Line) -> [u8; LENGTH] {
+pub fn any_unmarked(r: &mut Random, line: &Line) -> Situation {
+    let mut bytes = [0; LENGTH];
     match r.below(8) {
-        0..3 => sound_or_reached(r, line).to_bytes(),
-        3 | 4 => in_range(r, line).to_bytes(),
+        0..3 => return sound_or_reached(r, line),
+        3 | 4 => return in_range(r, line),
         5 | 6 => {
-            let mut bytes = sound_or_reached(r, line).to_bytes();
+            bytes = sound_or_reached(r, line).to_bytes();
             for _ in 0..r.from(1, 3) {
-                let at = r.index(LENGTH);
+                let at = r.index(SHORT_LENGTH);
                 bytes[at] = changed_byte(r, bytes[at]);
             }
-            bytes
         }
         _ => {
-            let mut bytes = [0; LENGTH];
-            for byte in &mut bytes {
+            for byte in &mut bytes[..SHORT_LENGTH] {
                 *byte = if r.once_in(8) { r.byte() } else { r.below(4) as u8 };
             }
-            bytes
         }
+    }
+    Situation::from_bytes(&bytes)
+}
+
+/// A situation for record SJ: sound ones; marks and counts that do not go with
+/// each other or with the rest, or out of range; both zero; on any situation.
+pub fn any_marked(r: &mut Random, line: &Line) -> Situation {
+    let marked = marked(r, line);
+    let (mark, count) = (r.below(2) as u8, r.below(u64::from(TEN_SECONDS) + 1) as u8);
+    match r.below(16) {
+        0..8 => marked,
+        8 => Situation { mark, count, ..marked },
+        9 => Situation { mark: changed_byte(r, marked.mark), ..marked },
+        10 => Situation { count: changed_byte(r, marked.count), ..marked },
+        11 => Situation { count: r.pick(&[9, 10, 11, 12, 128, 255]), ..marked },
+        12 => unmarked(marked),
+        13 if marked.occupied == 0 => Situation { occupied: set(r, line.all()), ..marked },
+        13 => Situation { occupied: 0, ..marked },
+        14 => Situation { exit: [r.below(3) as u8, r.below(3) as u8], ..marked },
+        _ => Situation { mark, count, ..any_unmarked(r, line) },
     }
 }
 
@@ -164,8 +233,15 @@ pub fn signal(r: &mut Random, line: &Line) -> u8 {
     section(r, line) + r.pick(&[0, 128])
 }
 
-/// An event in range. Those that only turn one thing on and off come less
-/// often.
+/// One of the occupied sections, if there are some.
+fn occupied_section(r: &mut Random, line: &Line, situation: &Situation) -> u8 {
+    let is_occupied = |k: &u8| situation.occupied >> (k - 1) & 1 == 1;
+    let occupied: Vec<u8> = (1..=line.sections()).filter(is_occupied).collect();
+    if occupied.is_empty() { section(r, line) } else { r.pick(&occupied) }
+}
+
+/// An event in range, no second. Those that only turn one thing on and off come
+/// less often.
 pub fn event(r: &mut Random, line: &Line) -> Event {
     let code = match r.below(4) {
         0 => r.from(1, 22) as u8,
@@ -199,6 +275,61 @@ pub const MET: [u8; 7] = [
     events::EXIT_SPECIAL,
 ];
 
+/// "One second passed, argument 0."
+pub const SECOND: Event = Event { code: events::SECOND, argument: 0 };
+
+/// An event in range that has to do with mark and count: a second, a section
+/// occupied or freed, an exit route; now and then another one.
+pub fn event_in_time(r: &mut Random, line: &Line, situation: &Situation) -> Event {
+    match r.below(8) {
+        0..3 => SECOND,
+        3 => Event { code: events::OCCUPIED, argument: section(r, line) },
+        4 | 5 => Event { code: events::FREED, argument: occupied_section(r, line, situation) },
+        6 => exit_route(r),
+        _ => event(r, line),
+    }
+}
+
+/// An exit route set or released.
+fn exit_route(r: &mut Random) -> Event {
+    let code = r.pick(&[events::EXIT_NORMAL, events::EXIT_SPECIAL, events::EXIT_RELEASE]);
+    Event { code, argument: r.below(2) as u8 }
+}
+
+/// An event that turns the orientation where the line is free: an exit route,
+/// or a station's first section occupied.
+pub fn turning_event(r: &mut Random, line: &Line) -> Event {
+    match r.pick(&[events::EXIT_NORMAL, events::EXIT_SPECIAL, events::OCCUPIED]) {
+        events::OCCUPIED => Event { code: events::OCCUPIED, argument: line.first_section(r.index(2)) },
+        code => Event { code, argument: r.below(2) as u8 },
+    }
+}
+
+/// What comes with a stray occupation, from a line that is empty: sections that
+/// become occupied, the same ones freed, about ten seconds; now and then
+/// something else between.
+pub fn stray_events(r: &mut Random, line: &Line) -> Vec<Event> {
+    let mut sections: Vec<u8> = (0..r.from(1, 3)).map(|_| section(r, line)).collect();
+    sections.sort();
+    sections.dedup();
+    if r.once_in(2) {
+        sections.reverse();
+    }
+    let of_each = |code: u8| sections.iter().map(move |&argument| Event { code, argument });
+    let mut events: Vec<Event> = of_each(events::OCCUPIED).chain(of_each(events::FREED)).collect();
+    events.extend(std::iter::repeat_n(SECOND, r.from(8, 12) as usize));
+    if r.once_in(2) {
+        let event = if r.once_in(2) { exit_route(r) } else { event_in_time(r, line, &Situation::FRESH) };
+        events.insert(r.index(events.len()), event);
+    }
+    events
+}
+
+/// The two bytes of a second, with another argument now and then.
+pub fn second_bytes(r: &mut Random) -> [u8; 2] {
+    [events::SECOND, if r.once_in(4) { changed_byte(r, 0) } else { 0 }]
+}
+
 /// An event's two bytes, in range or not.
 pub fn event_bytes(r: &mut Random, line: &Line) -> [u8; 2] {
     let Event { code, argument } = event(r, line);
@@ -231,8 +362,10 @@ pub fn reading_bytes(r: &mut Random, line: &Line) -> [u8; 2] {
 }
 
 /// Letters of records, here and elsewhere.
-const LETTERS: [[u8; 2]; 10] =
-    [*b"LB", *b"SI", *b"EV", *b"RD", *b"LN", *b"LC", *b"SJ", *b"SK", *b"lb", *b"si"];
+const LETTERS: [[u8; 2]; 14] = [
+    *b"LB", *b"SI", *b"SJ", *b"EV", *b"RD", *b"LN", *b"LC", *b"SK", *b"SL", *b"XC", *b"XF", *b"EW", *b"lb",
+    *b"sj",
+];
 
 /// The bytes of a record, damaged: none, with other letters, cut short, with
 /// bytes left over, with a byte too many or too few within, twice.
@@ -277,11 +410,28 @@ pub fn lent_plan(r: &mut Random) -> (Vec<u8>, Line) {
     (bytes, Line::new(n, b).unwrap_or(line))
 }
 
-/// What is lent to a call as situation: a record of any situation, damaged now
-/// and then.
+/// What is lent to a call as situation: a record of any situation, SI or SJ,
+/// damaged now and then.
 pub fn lent_situation(r: &mut Random, line: &Line) -> Vec<u8> {
-    let record = records::situation_record(&situation_body(r, line));
-    if r.once_in(20) { damaged_record(r, &record) } else { record.to_vec() }
+    let record = match r.below(8) {
+        0..4 => any_unmarked(r, line).to_record().to_vec(),
+        4 => reached_in_time(r, line).to_record().to_vec(),
+        _ => any_marked(r, line).to_long_record().to_vec(),
+    };
+    match r.below(40) {
+        0 | 1 => damaged_record(r, &record),
+        2 => mistaken_record(r, line),
+        _ => record,
+    }
+}
+
+/// The letters SI or SJ before the bytes of either, or before some fewer or
+/// more.
+fn mistaken_record(r: &mut Random, line: &Line) -> Vec<u8> {
+    let letters = r.pick(&[b"SI", b"SJ"]);
+    let mut bytes = [&letters[..], &any_marked(r, line).to_bytes(), &[0, r.byte()]].concat();
+    bytes.truncate(r.from(records::SI as u64 - 1, records::SJ as u64 + 2) as usize);
+    bytes
 }
 
 /// What is lent to a call as event or as reading: two bytes, now and then
@@ -323,6 +473,18 @@ pub fn question_in_use(r: &mut Random) -> Question {
         0 => event(r, line),
         _ => Event { code: r.pick(&MET), argument: r.below(2) as u8 },
     })
+}
+
+/// An accepted question on a line with the mark or on which it may come, which
+/// lists seconds and what else has to do with it.
+pub fn question_in_time(r: &mut Random, search: Search) -> Question {
+    let line = line(r);
+    let start = match r.below(4) {
+        0 => empty_line(r, &line),
+        1 => reached_in_time(r, &line),
+        _ => marked(r, &line),
+    };
+    question_from(r, search, line, start, |r, line| event_in_time(r, line, &start))
 }
 
 fn question_from(
@@ -382,10 +544,18 @@ pub fn question_bytes(question: &Question) -> Vec<u8> {
     bytes
 }
 
+/// The bytes of a question with others in the place of its situation's record.
+pub fn with_situation(question: &Question, situation: &[u8]) -> Vec<u8> {
+    let mut bytes = question_bytes(question);
+    let [_, from, to, ..] = records(question);
+    bytes.splice(from..to, situation.iter().copied());
+    bytes
+}
+
 /// Where each record of a question starts, and the end.
 fn records(question: &Question) -> [usize; 6] {
     let situation = records::PLAN;
-    let events = situation + records::SITUATION;
+    let events = situation + question.situation().to_record().len();
     let readings = events + 3 + 2 * question.events().len();
     let length = readings + 3 + 3 * question.readings().len();
     [0, situation, events, readings, length, length + 3]
@@ -456,7 +626,9 @@ pub fn damaged(r: &mut Random, question: &Question) -> Vec<u8> {
                 bytes[at[0]..at[1]].copy_from_slice(&line.to_record());
             }
             if r.once_in(2) {
-                bytes[at[1] + 2..at[2]].copy_from_slice(&situation_body(r, &line));
+                let situation =
+                    if at[2] - at[1] == records::SI { any_unmarked(r, &line) } else { any_marked(r, &line) };
+                bytes[at[1] + 2..at[2]].copy_from_slice(&situation.to_bytes()[..at[2] - at[1] - 2]);
             }
             let place = at[2] + 3 + 2 * r.index(count);
             bytes[place..place + 2].copy_from_slice(&event_bytes(r, &line));
@@ -478,8 +650,8 @@ pub fn damaged(r: &mut Random, question: &Question) -> Vec<u8> {
     bytes
 }
 
-/// A slot within the question: any sequence of its places, one that runs, or
-/// one of the answers given.
+/// A slot within the question: any sequence of its places, one that runs but
+/// for the count, or one of the answers given.
 pub fn slot(r: &mut Random, question: &Question, answers: &[u8]) -> [u8; SLOT] {
     let (answers, _) = answers.as_chunks::<SLOT>();
     if !answers.is_empty() && r.once_in(2) {
@@ -489,7 +661,7 @@ pub fn slot(r: &mut Random, question: &Question, answers: &[u8]) -> [u8; SLOT] {
     let length = r.below(question.length() as u64 + 1) as usize;
     let count = question.events().len() as u64;
     slot[0] = length as u8;
-    let mut situation = *question.situation();
+    let mut situation = unmarked(*question.situation());
     let runs = !r.once_in(4);
     for place in &mut slot[1..=length] {
         *place = r.from(1, count) as u8;
@@ -497,6 +669,7 @@ pub fn slot(r: &mut Random, question: &Question, answers: &[u8]) -> [u8; SLOT] {
         for _ in 0..if runs { 8 } else { 0 } {
             let event = question.events()[usize::from(*place - 1)];
             if situation.apply(question.line(), event).is_ok() {
+                situation = unmarked(situation);
                 break;
             }
             *place = r.from(1, count) as u8;

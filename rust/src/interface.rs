@@ -102,7 +102,7 @@ pub struct Plain;
 /// Plan and situation as they stand in their records.
 struct Given<'a> {
     plan: &'a [u8; 2],
-    situation: &'a [u8; LENGTH],
+    situation: [u8; LENGTH],
 }
 
 impl<'a> Given<'a> {
@@ -118,7 +118,7 @@ impl<'a> Given<'a> {
     #[inline]
     fn judge(&self) -> Result<(Line, Situation), Refusal> {
         let line = judged_plan(self.plan)?;
-        Ok((line, Situation::read(&line, self.situation)?))
+        Ok((line, Situation::read(&line, &self.situation)?))
     }
 }
 
@@ -153,8 +153,7 @@ fn event_written(plan: &[u8], situation: &[u8], event: &[u8], room: &mut [u8]) -
     event.check(&line)?;
     let room = room.first_chunk_mut::<EVENT_ROOM>().ok_or(Refusal::Room)?;
     situation.apply_named(&line, event)?;
-    room[..records::SITUATION].copy_from_slice(&situation.to_record());
-    Ok(records::SITUATION)
+    Ok(records::write_situation(&situation.to_bytes(), room))
 }
 
 #[inline]

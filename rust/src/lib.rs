@@ -1,9 +1,9 @@
-//! Document 01 with request 01 of document 02 in plain Rust ([`plain`]), the
-//! proved library behind a safe wrapper (`ffi`, or `bridge` on a processor that
-//! the library is not compiled for), and what the programs of this package
-//! share: the calls ([`interface`]) and the numbers they return ([`told`]),
-//! cases as text ([`cases`]), generated cases ([`generate`]), lent memory with
-//! guards ([`lent`]).
+//! Document 01 with requests 01 and 02 of document 02 in plain Rust
+//! ([`plain`]), the proved library behind a safe wrapper (`ffi`, or `bridge` on
+//! a processor that the library is not compiled for), and what the programs of
+//! this package share: the calls ([`interface`]) and the numbers they return
+//! ([`told`]), cases as text ([`cases`]), generated cases ([`generate`]), lent
+//! memory with guards ([`lent`]).
 
 #[cfg(bridged)]
 pub mod bridge;

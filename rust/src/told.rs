@@ -6,7 +6,7 @@
 pub struct Event {
     pub refusal: u8,
     /// Whom or what the refusal names: a station by its argument (9), a
-    /// section by its number (13), else 0.
+    /// section by its number (13, or 0 where only the count runs), else 0.
     pub name: u8,
     /// How many bytes the situation after takes.
     pub length: usize,

@@ -1,5 +1,5 @@
-//! The marked examples of document 01, laws that it states, and request 01 of
-//! document 02, on the plain implementation.
+//! The marked examples of document 01, laws that it states, and requests 01 and
+//! 02 of document 02, on the plain implementation.
 
 use folvkin_compare::cases::from_hex;
 use folvkin_compare::generate::{self, Search};
@@ -8,7 +8,7 @@ use folvkin_compare::plain::keytext::{key_text, whole_key};
 use folvkin_compare::plain::marking::{RIGHT, WRONG, mark};
 use folvkin_compare::plain::run::{Run, run};
 use folvkin_compare::plain::situation::{AFBLE, IN, NONE, OUT};
-use folvkin_compare::plain::{Aspects, Event, Line, Parts, Question, Refusal, Refused, Situation};
+use folvkin_compare::plain::{Aspects, Event, Line, Parts, Question, Refusal, Refused, Situation, readings};
 use folvkin_compare::random::Random;
 
 const A: u8 = 0;
@@ -46,6 +46,15 @@ impl Example {
             assert_eq!(example.event(code, argument), 0);
         }
         example
+    }
+
+    /// Mark and count.
+    fn stray(&self) -> (u8, u8) {
+        (self.situation.mark, self.situation.count)
+    }
+
+    fn line_read(&self) -> u8 {
+        readings::value(&self.line, &self.situation, readings::LINE, 0)
     }
 
     fn aspects(&self) -> [u8; 8] {
@@ -246,8 +255,8 @@ fn runs_tell_the_name() {
     let question = parts.accept().unwrap();
     for (slot, place, refusal, name) in [
         ([4, 1, 2, 3, 4, 0], 4, Refusal::OtherExitRoute, 0),
-        ([5, 1, 2, 5, 6, 4], 5, Refusal::SectionOccupied, 2),
-        ([4, 1, 2, 5, 4, 0], 4, Refusal::SectionOccupied, 3),
+        ([5, 1, 2, 5, 6, 4], 5, Refusal::TrackNotFree, 2),
+        ([4, 1, 2, 5, 4, 0], 4, Refusal::TrackNotFree, 3),
         ([4, 1, 2, 3, 7, 0], 4, Refusal::ExitRoute, A),
         ([4, 1, 2, 3, 8, 0], 4, Refusal::ExitRoute, A),
         ([4, 8, 9, 4, 10, 0], 4, Refusal::ExitRoute, B),
@@ -259,12 +268,13 @@ fn runs_tell_the_name() {
     }
 }
 
-/// Papers that list exit routes, and how many sequences their keys had before
-/// the request; see NOTES.md.
+/// Papers that list exit routes, and how many sequences their keys have; see
+/// NOTES.md. Before request 02 the first had 227: in six of them section 1 is
+/// occupied and freed and A turns the line within the ten seconds.
 const PAPERS: [(&str, usize); 2] = [
     (
         "4c42080453490100000000000000000100000000000000000045560c0201010102000e000f0113011401110103000500150016005244020200010104024c4e05",
-        227,
+        221,
     ),
     (
         "4c42050353490001020000000000000000010008000000000045560c040005000f001301130213031404160009000a02030111005244020300020103014c4e05",
@@ -307,6 +317,208 @@ fn keys_stay_as_they_were() {
     }
 }
 
+/// "A mark is set when a section becomes occupied, unexpected by 01, while
+/// neither station has an exit route."
+#[test]
+fn a_stray_occupation_sets_the_mark() {
+    for section in 1..=4 {
+        assert_eq!(Example::after(&[(19, section)]).stray(), (1, 0));
+    }
+    // Unexpected, but a station has an exit route; and expected.
+    let mut example = Example::after(&[(1, A), (2, B), (14, A), (19, 3), (20, 3), (19, 1)]);
+    assert_eq!(example.stray(), (0, 0));
+    // Expected with no exit route, then unexpected, then expected: it stays.
+    assert_eq!((example.event(16, A), example.event(19, 2)), (0, 0));
+    assert_eq!(example.stray(), (0, 0));
+    assert_eq!(example.event(19, 4), 0);
+    assert_eq!(example.stray(), (1, 0));
+    assert_eq!(example.event(19, 3), 0);
+    assert_eq!(example.stray(), (1, 0));
+    // AFBLE that stays on its own first section does not stop it.
+    let example = Example::after(&[(4, A), (19, 1)]);
+    assert_eq!((example.situation.annulment[0], example.stray()), (AFBLE, (1, 0)));
+    // A special exit route of either station does.
+    for station in [A, B] {
+        assert_eq!(Example::after(&[(4, station), (15, station), (19, 2)]).stray(), (0, 0));
+    }
+}
+
+/// "When the last section clears with that mark set and no exit route set, a
+/// count of 10 starts."
+#[test]
+fn the_count_starts_with_the_last_section() {
+    let mut example = Example::after(&[(19, 2), (19, 3), (20, 2)]);
+    assert_eq!(example.stray(), (1, 0));
+    assert_eq!(example.event(20, 3), 0);
+    assert_eq!(example.stray(), (1, 10));
+    // With link down too; without the mark not.
+    assert_eq!(Example::after(&[(21, 0), (19, 2), (20, 2)]).stray(), (1, 10));
+    assert_eq!(Example::after(&[(1, A), (2, B), (14, A), (19, 1), (20, 1)]).stray(), (0, 0));
+    assert_eq!(Example::after(&[(1, A), (2, B), (14, A), (19, 1), (16, A), (20, 1)]).stray(), (0, 0));
+}
+
+/// "While it runs the line is not free for refusal 13, for automatic
+/// reorientation and for reading 5. Each second lowers it; when that brings it
+/// to 0 the mark goes; with no count running a second changes nothing."
+#[test]
+fn ten_seconds_pass() {
+    let mut example = Example::after(&[(1, A), (2, B), (19, 3), (23, 0), (20, 3)]);
+    for count in (1..=10).rev() {
+        assert_eq!((example.stray(), example.line_read()), ((1, count), 1));
+        for code in [14, 15] {
+            // "A running count alone gives 13 with section 0."
+            assert_eq!({ example }.told(code, B), (13, 0));
+        }
+        // B's first section does not turn the line; the occupation "sets the
+        // count to 0 and keeps the mark".
+        let mut occupied = example;
+        assert_eq!(occupied.event(19, 4), 0);
+        assert_eq!((occupied.situation.orientation, occupied.stray()), ([OUT, IN], (1, 0)));
+        // What does not ask for a free line goes on.
+        assert_eq!({ example }.event(1, B), 0);
+        assert_eq!(example.event(23, 0), 0);
+    }
+    assert_eq!((example.stray(), example.line_read()), ((0, 0), 0));
+    let before = example.situation;
+    assert_eq!((example.event(23, 0), example.situation), (0, before));
+    for code in [14, 15] {
+        let mut route = example;
+        assert_eq!(route.told(code, B), (0, 0));
+        assert_eq!(route.situation.orientation, [IN, OUT]);
+    }
+    assert_eq!(example.event(19, 4), 0);
+    assert_eq!((example.situation.orientation, example.stray()), ([IN, OUT], (1, 0)));
+}
+
+/// A second is accepted whatever the situation, and only the count feels it.
+#[test]
+fn seconds_are_always_accepted() {
+    let r = &mut Random::new(13);
+    for _ in 0..50_000 {
+        let line = generate::line(r);
+        let before =
+            if r.once_in(2) { generate::reached_in_time(r, &line) } else { generate::sound(r, &line) };
+        let mut after = before;
+        assert_eq!(after.try_event(&line, generate::SECOND), Ok(()));
+        let count = before.count.saturating_sub(1);
+        let mark = if before.count == 1 { 0 } else { before.mark };
+        assert_eq!(after, Situation { mark, count, ..before });
+        let argument = r.from(1, 255) as u8;
+        let refused = after.try_event(&line, Event { argument, ..generate::SECOND });
+        assert_eq!(refused, Err(Refusal::Argument.into()));
+    }
+}
+
+/// "An accepted exit route clears both": by the station that is out, under
+/// AFBLE, with sections occupied or the count running.
+#[test]
+fn an_exit_route_clears_both() {
+    for (events, route) in [
+        (&[(1, A), (2, B), (19, 3)][..], (14, A)),
+        (&[(1, A), (2, B), (19, 3)], (15, A)),
+        (&[(1, A), (2, B), (19, 3), (20, 3)], (14, A)),
+        (&[(1, B), (2, A), (19, 3), (20, 3), (23, 0)], (15, B)),
+        (&[(4, A), (19, 3), (20, 3)], (15, A)),
+        (&[(4, B), (19, 1)], (15, B)),
+        (&[(4, B), (19, 1), (20, 1), (21, 0)], (15, B)),
+    ] {
+        let mut example = Example::after(events);
+        assert_eq!(example.situation.mark, 1);
+        assert_eq!(example.told(route.0, route.1), (0, 0));
+        assert_eq!(example.stray(), (0, 0));
+        // What is freed under the route or after it starts nothing.
+        for section in 1..=4 {
+            example.event(20, section);
+        }
+        assert_eq!(example.stray(), (0, 0));
+    }
+}
+
+/// "A sound situation has a count of 0 to 10, a count above 0 only with the
+/// mark set and no section occupied, and a mark only with no exit route and
+/// either a section occupied or a count above 0."
+#[test]
+fn marks_and_counts_are_sound() {
+    let line = Line::new(4, 2).unwrap();
+    for (occupied, exit) in [(0, [0, 0]), (4, [0, 0]), (0, [1, 0]), (0, [0, 2]), (9, [1, 1])] {
+        for mark in 0..=255 {
+            for count in 0..=255 {
+                let situation = Situation { occupied, exit, mark, count, ..Situation::FRESH };
+                let right = match (mark, count) {
+                    (0, 0) => true,
+                    (1, 0) => exit == [0, 0] && occupied != 0,
+                    (1, 1..=10) => exit == [0, 0] && occupied == 0,
+                    _ => false,
+                };
+                assert_eq!(situation.is_sound(&line), right);
+            }
+        }
+    }
+}
+
+/// What an event does to mark and count, by the words of the request; all else
+/// is as it was without them, but for what a running count holds up.
+#[test]
+fn the_rest_is_as_before() {
+    let r = &mut Random::new(14);
+    let (mut by_13, mut not_turned) = (0, 0);
+    for _ in 0..300_000 {
+        let line = generate::line(r);
+        let before = generate::reached_in_time(r, &line);
+        let event = generate::event_in_time(r, &line, &before);
+        let mut after = before;
+        let told = after.try_event(&line, event);
+        let without = |situation| Situation { mark: 0, count: 0, ..situation };
+        let mut plainly = without(before);
+        let told_plainly = plainly.try_event(&line, event);
+        let own = usize::from(event.argument & 1);
+        if before.count > 0 && matches!(event.code, 14 | 15) && before.orientation[own] == IN && told.is_err()
+        {
+            if told_plainly.is_ok() {
+                assert_eq!(told, Err(Refusal::TrackNotFree.into()));
+                assert_eq!(plainly.orientation[own], OUT);
+                by_13 += 1;
+            } else {
+                assert_eq!(told, told_plainly);
+            }
+            continue;
+        }
+        assert_eq!(told, told_plainly);
+        if before.count > 0 && event.code == 19 && plainly.orientation != before.orientation {
+            assert_eq!(after.orientation, before.orientation);
+            plainly.orientation = before.orientation;
+            not_turned += 1;
+        }
+        assert_eq!(without(after), without(plainly));
+        let right = match event.code {
+            _ if told.is_err() => (before.mark, before.count),
+            14 | 15 => (0, 0),
+            19 => (before.mark | u8::from(is_stray(&line, &before, event.argument)), 0),
+            20 if before.mark == 1 && after.occupied == 0 => (1, 10),
+            23 if before.count > 0 => (u8::from(before.count > 1), before.count - 1),
+            _ => (before.mark, before.count),
+        };
+        assert_eq!((after.mark, after.count), right);
+    }
+    assert!(by_13 > 1_000 && not_turned > 100, "{by_13} and {not_turned}");
+}
+
+/// With no exit route, a section that becomes occupied is expected only if a
+/// train can have come from the section before it.
+fn is_stray(line: &Line, s: &Situation, section: u8) -> bool {
+    let b = line.frontier();
+    let owner = usize::from(section > b);
+    let towards_b = match (s.area_direction(owner), owner) {
+        (OUT, 0) | (IN, 1) => true,
+        (OUT, 1) | (IN, 0) => false,
+        _ => return s.exit == [0, 0],
+    };
+    let before = if towards_b { section - 1 } else { section + 1 };
+    let across = if towards_b { section == b + 1 } else { section == b };
+    let is_occupied = line.is_section(before) && s.occupied >> (before - 1) & 1 == 1;
+    s.exit == [0, 0] && !(is_occupied && (s.link == 1 || !across))
+}
+
 /// "Every accepted event leads from a sound situation to a sound one."
 #[test]
 fn soundness_is_kept() {
@@ -321,6 +533,46 @@ fn soundness_is_kept() {
             Err(_) => assert_eq!(situation, before),
         }
     }
+    for _ in 0..200_000 {
+        let line = generate::line(r);
+        let mut situation = generate::marked(r, &line);
+        assert!(situation.is_sound(&line));
+        let event = generate::event_in_time(r, &line, &situation);
+        let before = situation;
+        match situation.try_event(&line, event) {
+            Ok(()) => assert!(situation.is_sound(&line) && (event.code == 23 || situation != before)),
+            Err(_) => assert_eq!(situation, before),
+        }
+    }
+}
+
+/// A question of either kind.
+fn question(r: &mut Random, search: Search) -> Question {
+    if r.once_in(2) { generate::question(r, search) } else { generate::question_in_time(r, search) }
+}
+
+/// A key with seconds: an exit route at B, which is in, when the count of 2 has
+/// run off.
+#[test]
+fn keys_wait_for_the_count() {
+    let situation = Situation { orientation: [OUT, IN], mark: 1, count: 2, ..Situation::FRESH };
+    let parts = Parts {
+        sections: 4,
+        frontier: 2,
+        situation: situation.to_bytes(),
+        events: &[[23, 0], [14, B]],
+        readings: &[[4, B, 1]],
+        length: 4,
+    };
+    let mut bytes = [0; 64];
+    let length = parts.write(&mut bytes).unwrap();
+    assert_eq!(&bytes[4..6], b"SJ");
+    assert_eq!(key_text(&bytes[..length]), "1 1 1 2\n1 1 2\n1 1 2 1\ntotal 3\n");
+    let line_free = Parts { readings: &[[5, 0, 0]], ..parts }.accept().unwrap();
+    assert_eq!(
+        whole_key(&line_free).as_chunks::<SLOT>().0,
+        [[2, 1, 1, 0, 0, 0], [3, 1, 1, 1, 0, 0], [4, 1, 1, 1, 1, 0]]
+    );
 }
 
 /// Writing an accepted question and reading it back gives it again; room too
@@ -329,7 +581,7 @@ fn soundness_is_kept() {
 fn questions_come_back() {
     let r = &mut Random::new(6);
     for _ in 0..5_000 {
-        let question = generate::question(r, Search::Any);
+        let question = question(r, Search::Any);
         let mut room = [0xa5; 96];
         let length = question.write(&mut room).unwrap();
         assert_eq!(Question::read(&room[..length]), Ok(question));
@@ -346,7 +598,7 @@ fn questions_come_back() {
 fn keys_are_what_they_should_be() {
     let r = &mut Random::new(7);
     for _ in 0..300 {
-        let question = generate::question(r, Search::Small);
+        let question = question(r, Search::Small);
         let whole = whole_key(&question);
         let slots = whole.as_chunks::<SLOT>().0;
         // Every sequence, in the order of places from the left.

@@ -1,12 +1,16 @@
 //! What generated cases contain: each way in which an order meets what is on
-//! the line.
+//! the line, and all that can become of mark and count.
 
 use std::collections::BTreeMap;
 
-use folvkin_compare::generate;
-use folvkin_compare::plain::events::{AFBLE_ORDER, AFBLI_ORDER, BILC, COBB, EXIT_NORMAL, EXIT_SPECIAL, SOBB};
+use folvkin_compare::generate::{self, Search};
+use folvkin_compare::interface::{Interface, Plain};
+use folvkin_compare::plain::events::{
+    AFBLE_ORDER, AFBLI_ORDER, BILC, COBB, EXIT_NORMAL, EXIT_SPECIAL, FREED, OCCUPIED, SECOND, SOBB,
+};
 use folvkin_compare::plain::run::{Run, run};
-use folvkin_compare::plain::{Event, Refused, Situation};
+use folvkin_compare::plain::situation::{IN, LENGTH};
+use folvkin_compare::plain::{Event, Line, Refused, Situation};
 use folvkin_compare::random::Random;
 
 /// Refusal, code, station, which stations hold exit routes (1 A, 2 B, 3 both),
@@ -88,4 +92,122 @@ fn runs_meet_what_is_on_the_line() {
         }
     }
     ways.all_came(20);
+}
+
+/// How often each thing came.
+#[derive(Default)]
+struct Things(BTreeMap<&'static str, u32>);
+
+impl Things {
+    fn add(&mut self, thing: &'static str, came: bool) {
+        *self.0.entry(thing).or_default() += u32::from(came);
+    }
+
+    /// What one event did to mark and count, on a sound situation.
+    fn add_event(&mut self, line: &Line, situation: &mut Situation, event: Event) {
+        let before = *situation;
+        let told = situation.apply_named(line, event);
+        let after = *situation;
+        let accepted = |code: u8| event.code == code && told.is_ok();
+        let by_count = told.is_err_and(|by| by.refusal as u8 == 13 && by.name == 0);
+        for (exit, by_13, route) in [
+            (EXIT_NORMAL, "13 with name 0, normal", "cleared by a normal route"),
+            (EXIT_SPECIAL, "13 with name 0, special", "cleared by a special route"),
+        ] {
+            self.add(by_13, event.code == exit && by_count);
+            self.add(route, accepted(exit) && before.mark == 1);
+        }
+        let mark_set = accepted(OCCUPIED) && before.mark < after.mark;
+        self.add("mark set", mark_set);
+        self.add("occupied, no mark", accepted(OCCUPIED) && after.mark == 0);
+        self.add("occupied, mark kept", accepted(OCCUPIED) && before.mark == 1);
+        self.add("count stopped", accepted(OCCUPIED) && before.count > 0);
+        let owner = usize::from(event.argument > line.frontier());
+        let is_first = event.argument == if owner == 0 { 1 } else { line.sections() };
+        let is_in = before.link == 1 && before.orientation[owner] == IN && is_first;
+        self.add("not turned", accepted(OCCUPIED) && before.count > 0 && is_in);
+        self.add("count started", accepted(FREED) && after.count > 0);
+        self.add("last one freed, no mark", accepted(FREED) && after.occupied == 0 && after.mark == 0);
+        self.add("freed, not the last", accepted(FREED) && after.occupied != 0 && after.mark == 1);
+        self.add("count lowered", accepted(SECOND) && after.count > 0);
+        self.add("count ended", accepted(SECOND) && before.count > after.count && after.count == 0);
+        self.add("second, none counted", accepted(SECOND) && before.count == 0);
+        self.add("second, link down", accepted(SECOND) && before.link == 0);
+    }
+
+    fn all_came(&self, least: u32) {
+        for (thing, &times) in &self.0 {
+            assert!(times >= least, "{thing} came {times} times");
+        }
+    }
+}
+
+#[test]
+fn stray_occupations_go_all_ways() {
+    let r = &mut Random::new(15);
+    let mut things = Things::default();
+    for _ in 0..20_000 {
+        let line = generate::line(r);
+        let mut situation = generate::empty_line(r, &line);
+        for event in generate::stray_events(r, &line) {
+            things.add_event(&line, &mut situation, event);
+            things.add_event(&line, &mut { situation }, generate::turning_event(r, &line));
+        }
+    }
+    things.all_came(100);
+}
+
+#[test]
+fn runs_with_seconds_go_all_ways() {
+    let r = &mut Random::new(16);
+    let mut things = Things::default();
+    for _ in 0..40_000 {
+        let question = generate::question_in_time(r, Search::Small);
+        let lists_second = question.events().contains(&generate::SECOND);
+        things.add("second listed", lists_second);
+        for last in 1..=question.events().len() {
+            let slot = generate::slot_to(r, &question, last);
+            let mut situation = *question.situation();
+            let stopped = match run(&question, &slot) {
+                Ok(Run::Stopped { place, .. }) => place,
+                _ => slot[0],
+            };
+            let mut seconds = 0;
+            for place in 1..=stopped {
+                let event = question.events()[usize::from(slot[usize::from(place)]) - 1];
+                things.add_event(question.line(), &mut situation, event);
+                seconds += u8::from(event == generate::SECOND);
+            }
+            things.add("several seconds", seconds > 1);
+        }
+    }
+    things.all_came(20);
+}
+
+#[test]
+fn lent_situations_are_of_both_records() {
+    let r = &mut Random::new(17);
+    let mut things = Things::default();
+    for _ in 0..40_000 {
+        let line = generate::line(r);
+        let plan = line.to_record();
+        let lent = generate::lent_situation(r, &line);
+        let refusal = Plain::situation(&plan, &lent);
+        let is_long = lent.starts_with(b"SJ");
+        let body = lent.get(2..).and_then(|body| body.as_array::<LENGTH>());
+        let [mark, count] = body.map_or([0, 0], |body| [body[LENGTH - 2], body[LENGTH - 1]]);
+        things.add("SI, sound", !is_long && refusal == 0);
+        things.add("SJ, sound, count running", is_long && refusal == 0 && count > 0);
+        things.add("SJ, sound, section occupied", is_long && refusal == 0 && count == 0);
+        things.add("SJ, mark above 1", is_long && refusal == 2 && mark > 1);
+        things.add("SJ, count above 10", is_long && refusal == 2 && mark == 1 && count > 10);
+        things.add("SJ, count without mark", is_long && refusal == 2 && mark == 0 && count > 0);
+        things.add("SJ, pair in range, not sound", is_long && refusal == 2 && mark == 1 && count <= 10);
+        things.add("SJ, both zero", is_long && refusal == 20 && body.is_some() && [mark, count] == [0, 0]);
+        things.add("SJ, one byte missing", is_long && lent.len() == LENGTH + 1);
+        things.add("SJ, both missing", is_long && lent.len() == LENGTH);
+        things.add("SJ, bytes left over", is_long && lent.len() > LENGTH + 2);
+        things.add("SI, mark and count left over", lent.starts_with(b"SI") && body.is_some());
+    }
+    things.all_came(20);
 }

@@ -32,8 +32,22 @@ const PLANS: [Due; 8] = [
     (b"LB\x01\x01\x01", 20),
 ];
 
-const SITUATIONS: [Due; 7] = [
+/// On those that are sound nothing is pending and no signal is clear; the line
+/// is free in the first.
+const SITUATIONS: [Due; 19] = [
     (b"SI\x01\0\0\0\0\0\0\0\0\0\0\0\0\0\0\0\0\0\0", 0),
+    (b"SJ\x01\0\0\0\0\0\0\0\0\0\0\0\0\0\0\0\0\0\0\x01\x0a", 0),
+    (b"SJ\x01\0\0\0\0\0\0\0\0\0\0\0\0\x08\0\0\0\0\0\x01\0", 0),
+    (b"SJ\x01\0\0\0\0\0\0\0\0\0\0\0\0\0\0\0\0\0\0\x01\0", 2),
+    (b"SJ\x01\0\0\0\0\0\0\0\0\0\0\0\0\0\0\0\0\0\0\0\x01", 2),
+    (b"SJ\x01\0\0\0\0\0\0\0\0\0\0\0\0\0\0\0\0\0\0\x01\x0b", 2),
+    (b"SJ\x01\0\0\0\0\0\0\0\0\0\0\0\0\0\0\0\0\0\0\x02\x01", 2),
+    (b"SJ\x01\0\0\0\0\0\0\0\0\0\0\0\0\x08\0\0\0\0\0\x01\x01", 2),
+    (b"SJ\x01\0\0\0\0\0\0\0\0\0\0\0\0\0\0\0\0\0\0\0\0", 20),
+    (b"SJ\x01\x01\x01\0\0\0\0\0\0\0\0\0\0\0\0\0\0\0\0\0\0", 20),
+    (b"SJ\x01\0\0\0\0\0\0\0\0\0\0\0\0\0\0\0\0\0\0\x01", 20),
+    (b"SJ\x01\0\0\0\0\0\0\0\0\0\0\0\0\0\0\0\0\0\0\x01\x0a\0", 20),
+    (b"SI\x01\0\0\0\0\0\0\0\0\0\0\0\0\0\0\0\0\0\0\x01\x0a", 20),
     (b"SI\x01\x01\x01\0\0\0\0\0\0\0\0\0\0\0\0\0\0\0\0", 2),
     (b"", 20),
     (b"SJ\x01\0\0\0\0\0\0\0\0\0\0\0\0\0\0\0\0\0\0", 20),
@@ -43,12 +57,13 @@ const SITUATIONS: [Due; 7] = [
 ];
 
 /// On the fresh situation.
-const EVENTS: [Due; 8] = [
+const EVENTS: [Due; 9] = [
     (&[1, 0], 0),
     (&[5, 0], 5),
     (&[1, 2], 4),
+    (&[23, 1], 4),
     (&[0, 0], 3),
-    (&[23, 9], 3),
+    (&[24, 9], 3),
     (&[], 20),
     (&[1], 20),
     (&[1, 0, 0], 20),
@@ -95,15 +110,17 @@ fn plans_and_situations_are_refused_in_order() {
 fn events_are_refused_in_order() {
     for ((plan, due_plan), (situation, due_situation)) in plans_and_situations() {
         for (event, due_event) in EVENTS {
-            for length in [0, 21, EVENT_ROOM - 1, EVENT_ROOM, 2 * EVENT_ROOM] {
+            for length in [0, 21, 22, 23, EVENT_ROOM - 1, EVENT_ROOM, 2 * EVENT_ROOM] {
                 let due_room = if length < EVENT_ROOM { 24 } else { 0 };
                 let due = first_due(&[due_plan, due_situation, due_event, due_room]);
                 let mut room = vec![7; length];
                 let returned = Plain::event(plan, situation, event, &mut room);
                 if due == 0 {
-                    assert_eq!(returned, 21 << 16);
-                    assert_eq!(room[..21], *b"SI\x01\0\0\0\0\0\0\0\0\x01\0\0\0\0\0\0\0\0\0");
-                    assert!(room[21..].iter().all(|&byte| byte == 7));
+                    let mut after = situation.to_vec();
+                    after[11] = 1;
+                    assert_eq!(returned, (after.len() as u64) << 16);
+                    assert!(room.starts_with(&after));
+                    assert!(room[after.len()..].iter().all(|&byte| byte == 7));
                 } else {
                     assert_eq!(returned, due.into());
                     assert!(room.iter().all(|&byte| byte == 7));
@@ -133,7 +150,8 @@ fn readings_are_refused_in_order() {
     for ((plan, due_plan), (situation, due_situation)) in plans_and_situations() {
         for (reading, due_reading) in READINGS {
             let due = first_due(&[due_plan, due_situation, due_reading]);
-            assert_eq!(Plain::reading(plan, situation, reading), due.into());
+            let value = u32::from(due == 0 && situation != SITUATIONS[0].0);
+            assert_eq!(Plain::reading(plan, situation, reading), u32::from(due) + (value << 8));
         }
     }
 }
@@ -143,7 +161,7 @@ fn readings_are_refused_in_order() {
 #[test]
 fn questions_are_refused_in_order() {
     for ((plan, due_plan), (situation, due_situation)) in plans_and_situations() {
-        if plan.len() != 4 || situation.len() != 21 {
+        if plan.len() != 4 || !matches!(situation.len(), 21 | 23) {
             continue;
         }
         for (lists, due_lists) in LISTS {
@@ -198,6 +216,36 @@ fn what_an_event_wrote_is_lent_to_the_next() {
     assert_eq!(happen([2, 1]), (0, [0, 2, 2, 1, 0, 0, 0, 0]));
     assert_eq!(happen([14, 0]), (0, [2, 2, 2, 1, 0, 0, 0, 0]));
     assert_eq!(happen([14, 1]), (15, [2, 2, 2, 1, 0, 0, 0, 0]));
+}
+
+/// A stray occupation, by calls alone: SJ while the mark or the count is there,
+/// SI before and after.
+#[test]
+fn records_grow_and_shrink() {
+    let plan = b"LB\x04\x02";
+    let mut situation = b"SI\x01\x01\x02\0\0\0\0\0\0\0\0\0\0\0\0\0\0\0\0".to_vec();
+    let mut happen = |event: [u8; 2], right: &[u8]| {
+        let mut room = [7; EVENT_ROOM];
+        let returned = Plain::event(plan, &situation, &event, &mut room);
+        assert_eq!(returned, (right.len() as u64) << 16);
+        assert!(room.starts_with(right));
+        assert!(room[right.len()..].iter().all(|&byte| byte == 7));
+        situation = right.to_vec();
+        (Plain::reading(plan, right, &[5, 0]) >> 8, Plain::event(plan, right, &[14, 1], &mut room) as u16)
+    };
+    let free = (0, 0);
+    // What 13 names stands above it.
+    let not_free = |name: u16| (1, 13 + (name << 8));
+    assert_eq!(happen([23, 0], b"SI\x01\x01\x02\0\0\0\0\0\0\0\0\0\0\0\0\0\0\0\0"), free);
+    assert_eq!(happen([19, 3], b"SJ\x01\x01\x02\0\0\0\0\0\0\0\0\0\0\x04\0\0\0\0\0\x01\0"), not_free(3));
+    assert_eq!(happen([23, 0], b"SJ\x01\x01\x02\0\0\0\0\0\0\0\0\0\0\x04\0\0\0\0\0\x01\0"), not_free(3));
+    for count in (1..=10).rev() {
+        let event = if count == 10 { [20, 3] } else { [23, 0] };
+        let mut right = *b"SJ\x01\x01\x02\0\0\0\0\0\0\0\0\0\0\0\0\0\0\0\0\x01\0";
+        right[22] = count;
+        assert_eq!(happen(event, &right), not_free(0));
+    }
+    assert_eq!(happen([23, 0], b"SI\x01\x01\x02\0\0\0\0\0\0\0\0\0\0\0\0\0\0\0\0"), free);
 }
 
 /// A out and B in, sections 3 and 4 occupied: exit routes at B are refused by
@@ -267,12 +315,16 @@ fn runs_tell_the_name() {
 fn runs_are_events_one_by_one() {
     let r = &mut Random::new(3);
     for _ in 0..20_000 {
-        let question =
-            if r.once_in(2) { generate::question(r, Search::Any) } else { generate::question_in_use(r) };
+        let question = match r.below(3) {
+            0 => generate::question(r, Search::Any),
+            1 => generate::question_in_use(r),
+            _ => generate::question_in_time(r, Search::Any),
+        };
         let bytes = generate::question_bytes(&question);
-        let (plan, situation) = (&bytes[..4], &bytes[4..25]);
+        let plan = &question.line().to_record();
+        let mut situation = question.situation().to_record().to_vec();
+        assert!(bytes.starts_with(&[plan, &situation[..]].concat()));
         let slot = generate::slot(r, &question, &[]);
-        let mut situation = situation.to_vec();
         let mut right = told::Run::default();
         for (place, &listed) in (1..).zip(&slot[1..=usize::from(slot[0])]) {
             let event = question.events()[usize::from(listed - 1)].to_bytes();
@@ -301,7 +353,12 @@ fn aspects_are_readings() {
     let r = &mut Random::new(4);
     for _ in 0..5_000 {
         let line = generate::line(r);
-        let (plan, situation) = (line.to_record(), generate::sound_or_reached(r, &line).to_record());
+        let situation = if r.once_in(2) {
+            generate::sound_or_reached(r, &line)
+        } else {
+            generate::reached_in_time(r, &line)
+        };
+        let (plan, situation) = (line.to_record(), situation.to_record());
         let n = line.sections();
         let mut room = vec![9; 2 * usize::from(n)];
         assert_eq!(Plain::aspects(&plan, &situation, &mut room), 0);
@@ -364,8 +421,11 @@ fn answers_are_those_of_the_vectors_files() {
     let fresh = "534901000000000000000000000000000000000000";
     let asked = "534901000000000000000001000000000000000000";
     let occupied = "5349010102000000000000000000000c0000000000";
+    let counting = "534a010102000000000000000000000000000000000102";
+    let counted = "534a010102000000000000000000000000000000000101";
     let question = format!("{plan}{fresh}455602010002015244010200014c4e02");
     let on_occupied = format!("{plan}{occupied}4556010e015244004c4e01");
+    let on_counting = format!("{plan}{counting}45560217000e015244010401014c4e04");
     for (case, right) in [
         (format!("plan {plan}"), "0".to_string()),
         ("plan -".into(), "20".into()),
@@ -374,17 +434,25 @@ fn answers_are_those_of_the_vectors_files() {
         (format!("event {plan} {fresh} 0100 95"), "24 0 -".into()),
         (format!("event {plan} {occupied} 0e01 96"), "13 3 -".into()),
         (format!("event {plan} {occupied} 0e01 95"), "24 0 -".into()),
+        (format!("event {plan} {counting} 0e01 96"), "13 0 -".into()),
+        (format!("event {plan} {counting} 1700 96"), format!("0 0 {counted}")),
+        (format!("event {plan} {counting} 1700 23"), "24 0 -".into()),
+        (format!("sound {plan} {}0000", &counting[..42]), "20".into()),
         (format!("aspects {plan} {fresh} 8"), "0 0000000000000000".into()),
         (format!("aspects {plan} {fresh} 7"), "24 -".into()),
         (format!("reading {plan} {fresh} 0500"), "0 0".into()),
+        (format!("reading {plan} {counting} 0500"), "0 1".into()),
         (format!("question {question}"), "0".into()),
         (format!("key {question} ff0000000000 6"), "0 1 0 020102000000".into()),
         (format!("run {question} 020102000000"), "0 0 0 0 1".into()),
         (format!("run {question} 020101000000"), "0 2 7 0 0".into()),
         (format!("run {on_occupied} 010100000000"), "0 1 13 3 0".into()),
         (format!("run {on_occupied} 010000000000"), "22 0 0 0 0".into()),
+        (format!("run {on_counting} 020102000000"), "0 2 13 0 0".into()),
+        (format!("run {on_counting} 030101020000"), "0 0 0 0 1".into()),
         ("number 1 1500 100 50 0 0 13".into(), "0 00000000000058420200000000".into()),
         (format!("keytext {question}"), "1 2|total 1|".into()),
+        (format!("keytext {on_counting}"), "1 1 1 2|1 1 2|1 1 2 1|total 3|".into()),
     ] {
         assert_eq!(answer_to(&case, plain), Some(right), "{case}");
     }

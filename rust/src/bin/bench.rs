@@ -30,7 +30,7 @@ use folvkin_compare::cases::from_hex;
 use folvkin_compare::generate::{self, Search};
 use folvkin_compare::interface::{EVENT_ROOM, Interface, Plain};
 use folvkin_compare::plain::key::{SLOT, START};
-use folvkin_compare::plain::records::{PLAN, SITUATION, plan_record};
+use folvkin_compare::plain::records::{PLAN, SI, plan_record};
 use folvkin_compare::plain::{Line, Parts, Situation};
 use folvkin_compare::random::Random;
 use folvkin_compare::told;
@@ -39,6 +39,7 @@ use folvkin_compare::told;
 const LARGEST: &str = "4c42100f53490100000000000000000000000000000000000045560c1302130c0300130e1308010113071305130f1304130a13015244004c4e05";
 const LARGEST_READ: &str = "4c42100f53490100000000000000000000000000000000000045560c1302130c0300130e1308010113071305130f1304130a13015244040500010401000301000110004c4e05";
 const ANNULLED: &str = "4c42050353490001020000000000000000010008000000000045560c040005000f001301130213031404160009000a02030111005244020300020103014c4e05";
+const SECONDS: &str = "4c420603534a01010200000000000000000000000000000000010245560c170013041404130614060e0110010e0010000101020011015244020500010401004c4e05";
 
 /// Something to measure, with either implementation.
 trait Work {
@@ -230,6 +231,7 @@ impl Bench {
             ("largest, no readings", LARGEST),
             ("largest, four readings", LARGEST_READ),
             ("annulled, two readings", ANNULLED),
+            ("with seconds, two readings", SECONDS),
         ] {
             let bytes = from_hex(text).expect("hex");
             let mut whole = WholeKey::new(bytes.clone());
@@ -419,7 +421,7 @@ impl Work for Plans {
 /// A situation and what is asked of it.
 struct Given {
     plan: [u8; PLAN],
-    situation: [u8; SITUATION],
+    situation: [u8; SI],
     event: [u8; 2],
     reading: [u8; 2],
 }
@@ -430,7 +432,7 @@ impl Given {
 
     fn new(r: &mut Random, line: &Line) -> Given {
         let plan = line.to_record();
-        let situation = generate::sound_or_reached(r, line).to_record();
+        let situation = *generate::sound_or_reached(r, line).to_record().as_array().expect("no mark");
         let event = generate::event(r, line).to_bytes();
         let reading = generate::reading(r, line);
         Given { plan, situation, event, reading }
@@ -484,8 +486,9 @@ impl Walk {
 impl Work for Walk {
     fn work<I: Interface>(&mut self) -> u64 {
         let (mut before, mut after) = (&mut [0; EVENT_ROOM], &mut [0; EVENT_ROOM]);
-        let mut length = SITUATION;
-        before[..length].copy_from_slice(&Situation::FRESH.to_record());
+        let fresh = Situation::FRESH.to_record();
+        let mut length = fresh.len();
+        before[..length].copy_from_slice(&fresh);
         let mut sum = 0;
         for event in &self.events {
             let returned = I::event(&self.plan, &before[..length], event, after);

@@ -3,9 +3,10 @@
 //!     compare [--seed S] [--count N] [--small-line] [--trace]
 //!
 //! The cases depend on seed and count alone. `--small-line` runs every
-//! situation in range of the plan 2, 1 instead, and every event, aspect and
-//! reading on each sound one. `--trace` prints every case before its call, so
-//! that the last line tells which one ended the program.
+//! situation in range of the plan 2, 1 instead, each sound one with every mark
+//! and count, and every event, aspect and reading on all that are sound.
+//! `--trace` prints every case before its call, so that the last line tells
+//! which one ended the program.
 //!
 //! What a later case takes from an earlier one (a situation that an event led
 //! to, a slot to go on after) is what both gave, or the earlier case counts as
@@ -29,7 +30,8 @@ use folvkin_compare::interface::{EVENT_ROOM, Plain};
 use folvkin_compare::lent::Lent;
 use folvkin_compare::lent::Placed;
 use folvkin_compare::plain::key::{SLOT, START};
-use folvkin_compare::plain::records::{PLAN, SITUATION, plan_record};
+use folvkin_compare::plain::records::{PLAN, SI, SJ, plan_record};
+use folvkin_compare::plain::situation::{LENGTH, SHORT_LENGTH, TEN_SECONDS};
 use folvkin_compare::plain::{Event, Line, Question, Situation, events, readings};
 use folvkin_compare::random::Random;
 use folvkin_compare::told;
@@ -103,6 +105,10 @@ impl Refusals {
         self.0.get(&refusal).map_or(0, |names| names.values().sum())
     }
 
+    fn times_with(&self, refusal: u8, name: u32) -> u64 {
+        self.0.get(&refusal).and_then(|names| names.get(&name)).copied().unwrap_or(0)
+    }
+
     fn all(&self) -> u64 {
         self.0.keys().map(|&refusal| self.times(refusal)).sum()
     }
@@ -139,6 +145,78 @@ impl Tally {
             }
             _ => self.refusals.add(returned as u8, 0),
         }
+    }
+}
+
+/// What is counted of mark and count: what accepted events did to them, line
+/// readings that tell them, and records SJ.
+#[derive(Default)]
+struct Met {
+    marks_set: u64,
+    counts_started: u64,
+    counts_ended: u64,
+    counts_stopped: u64,
+    marks_cleared: u64,
+    readings: u64,
+    written: u64,
+    accepted: u64,
+    both_zero: u64,
+}
+
+impl Met {
+    /// The room is what it is after the call.
+    fn count(&mut self, case: &Case, returned: u64, room: &[u8]) {
+        let before = match case.kind {
+            Kind::Plan | Kind::Mark => return,
+            Kind::Question | Kind::Key | Kind::Run => case.read[0].get(PLAN..PLAN + SJ).unwrap_or(&[]),
+            Kind::Situation | Kind::Event | Kind::Aspects | Kind::Reading => case.read[1],
+        };
+        let refusal = returned as u8;
+        if before.starts_with(b"SJ") {
+            self.accepted += u64::from(refusal == 0);
+            self.both_zero += u64::from(refusal == 20 && before.len() == SJ && before.ends_with(&[0, 0]));
+        }
+        if refusal != 0 {
+            return;
+        }
+        let [mark, count] = mark_and_count(before);
+        match case.kind {
+            Kind::Event => {
+                let after = &room[..told::Event::from(returned).length];
+                let [mark_after, count_after] = mark_and_count(after);
+                self.written += u64::from(after.starts_with(b"SJ"));
+                match case.read[2][0] {
+                    events::OCCUPIED => {
+                        self.marks_set += u64::from(mark < mark_after);
+                        self.counts_stopped += u64::from(count > 0);
+                    }
+                    events::FREED => self.counts_started += u64::from(count_after > 0),
+                    events::SECOND => self.counts_ended += u64::from(count > count_after && count_after == 0),
+                    events::EXIT_NORMAL | events::EXIT_SPECIAL => self.marks_cleared += u64::from(mark > 0),
+                    _ => {}
+                }
+            }
+            Kind::Reading => self.readings += u64::from(case.read[2][0] == readings::LINE && count > 0),
+            _ => {}
+        }
+    }
+}
+
+impl fmt::Display for Met {
+    fn fmt(&self, f: &mut fmt::Formatter) -> fmt::Result {
+        write!(f, "mark set {}, cleared by an exit route {}; ", self.marks_set, self.marks_cleared)?;
+        write!(f, "count started {}, ended {}, ", self.counts_started, self.counts_ended)?;
+        write!(f, "stopped by an occupation {}, read as line {}; ", self.counts_stopped, self.readings)?;
+        write!(f, "SJ accepted {}, written {}, ", self.accepted, self.written)?;
+        write!(f, "refused with both zero {}", self.both_zero)
+    }
+}
+
+/// Mark and count of an accepted situation's record.
+fn mark_and_count(record: &[u8]) -> [u8; 2] {
+    match *record {
+        [b'S', b'J', .., mark, count] => [mark, count],
+        _ => [0, 0],
     }
 }
 
@@ -233,6 +311,7 @@ struct Comparison {
     trace: bool,
     cases: u64,
     tallies: [Tally; Kind::ALL.len()],
+    met: Met,
     library: Caller,
     /// What the plain implementation's last call left in its room.
     plain: Vec<u8>,
@@ -274,6 +353,7 @@ impl Comparison {
             trace,
             cases: 0,
             tallies: Default::default(),
+            met: Met::default(),
             library: Caller::new(),
             plain: Vec::with_capacity(LARGEST_ROOM),
             noise,
@@ -303,6 +383,7 @@ impl Comparison {
         let returned = case.call::<Plain>(case.read, &mut self.plain);
         self.cases += 1;
         self.tallies[case.kind as usize].count(case.kind, returned);
+        self.met.count(&case, returned, &self.plain);
         self.call_library(&case, places, returned);
         returned
     }
@@ -368,6 +449,13 @@ impl Comparison {
             }
             println!();
         }
+        println!("{}", self.met);
+        let [by_events, by_runs] = [Kind::Event, Kind::Run].map(|kind| &self.tallies[kind as usize]);
+        println!(
+            "13 by the count alone: event {}, run {}",
+            by_events.refusals.times_with(13, 0),
+            by_runs.stops.times_with(13, 0)
+        );
         println!("{seconds:.1} s");
         println!("{} cases, {} differences", self.cases, self.differences());
     }
@@ -381,14 +469,16 @@ impl Comparison {
     fn generated(&mut self) {
         self.sweeps();
         while self.cases < self.limit {
-            match self.random.below(108) {
+            match self.random.below(118) {
                 0 => self.plan(),
                 1..38 => self.situation(),
                 38..44 => self.walk_by_events(),
                 44..50 => self.damaged_questions(),
                 50..75 => self.question(),
                 75..100 => (0..6).for_each(|_| self.number()),
-                _ => self.line_in_use(),
+                100..108 => self.line_in_use(),
+                108..114 => self.marked_line(),
+                _ => self.stray_occupation(),
             }
             if self.random.once_in(3_000) {
                 self.damage_sweep();
@@ -399,26 +489,52 @@ impl Comparison {
         }
     }
 
-    /// Every plan; every event and every reading on one situation, and one
-    /// event with every plan; every two letters.
+    /// Every plan, and one event with every plan; every two letters; on a
+    /// situation without the mark and on one on which the count runs every
+    /// event and every reading; every mark and count.
     fn sweeps(&mut self) {
         let line = generate::line(&mut self.random);
         let plan = line.to_record();
-        let situation = generate::reached(&mut self.random, &line).to_record();
+        let unmarked = generate::reached(&mut self.random, &line);
+        let counting = generate::counting(&mut self.random, &line);
         let room = self.room(EVENT_ROOM);
         for first in 0..=255 {
             for second in 0..=255 {
                 let any_plan = plan_record(first, second);
                 self.check(Case::plan(&any_plan));
-                self.check(Case::event(&any_plan, &situation, &[events::DAFBL, 0], &room));
-                self.check(Case::event(&plan, &situation, &[first, second], &room));
-                self.check(Case::reading(&plan, &situation, &[first, second]));
-                self.check(Case::plan(&with_letters(plan, [first, second])));
-                self.check(Case::situation(&plan, &with_letters(situation, [first, second])));
+                self.check(Case::event(&any_plan, &unmarked.to_record(), &[events::DAFBL, 0], &room));
+                self.check(Case::plan(&with_letters(&plan, [first, second])));
             }
         }
-        self.lengths(&plan, &situation);
-        self.event_rooms(&plan, &situation);
+        for situation in [unmarked, counting] {
+            let situation = situation.to_record();
+            for first in 0..=255 {
+                for second in 0..=255 {
+                    self.check(Case::event(&plan, &situation, &[first, second], &room));
+                    self.check(Case::reading(&plan, &situation, &[first, second]));
+                    self.check(Case::situation(&plan, &with_letters(&situation, [first, second])));
+                }
+            }
+            self.lengths(&plan, &situation);
+            self.event_rooms(&plan, &situation);
+        }
+        self.marks_and_counts(&plan, counting);
+    }
+
+    /// A second on every mark and count, with no section occupied, with one,
+    /// and with an exit route.
+    fn marks_and_counts(&mut self, plan: &[u8], counting: Situation) {
+        let room = self.room(EVENT_ROOM);
+        let occupied = Situation { occupied: 1, ..counting };
+        let route = Situation { exit: [1, 0], ..Situation::FRESH };
+        for situation in [counting, occupied, route] {
+            for mark in 0..=255 {
+                for count in 0..=255 {
+                    let record = Situation { mark, count, ..situation }.to_long_record();
+                    self.check(Case::event(plan, &record, &[events::SECOND, 0], &room));
+                }
+            }
+        }
     }
 
     /// Plan, situation, event and reading, each cut at every length or with
@@ -470,7 +586,8 @@ impl Comparison {
         self.check(Case::situation(&plan, &situation));
         for _ in 0..4 {
             let r = &mut self.random;
-            let event = generate::event_bytes(r, &line);
+            let event =
+                if r.once_in(6) { generate::second_bytes(r) } else { generate::event_bytes(r, &line) };
             let event = generate::lent_pair(r, event);
             let length = self.event_room_length();
             let room = self.room(length);
@@ -492,7 +609,7 @@ impl Comparison {
             0 => self.random.index(129),
             1 => EVENT_ROOM - 1,
             2 => EVENT_ROOM + 1,
-            3 => SITUATION + self.random.index(3) - 1,
+            3 => self.random.from(SI as u64 - 1, SJ as u64 + 1) as usize,
             _ => EVENT_ROOM,
         }
     }
@@ -509,22 +626,80 @@ impl Comparison {
     /// A walk over events: the records that one call wrote are the next one's
     /// situation.
     fn walk_by_events(&mut self) {
-        let line = generate::line(&mut self.random);
+        let r = &mut self.random;
+        let line = generate::line(r);
         let plan = line.to_record();
-        let from =
-            if self.random.once_in(2) { Situation::FRESH } else { generate::sound(&mut self.random, &line) };
+        let from = match r.below(4) {
+            0 | 1 => Situation::FRESH,
+            2 => generate::sound(r, &line),
+            _ => generate::marked(r, &line),
+        };
         let mut situation = from.to_record().to_vec();
-        let event_room = self.room(EVENT_ROOM);
         let aspects_room = self.room(2 * usize::from(line.sections()));
         for _ in 0..12 {
-            let event = generate::event(&mut self.random, &line).to_bytes();
-            let told = self.check(Case::event(&plan, &situation, &event, &event_room));
-            let told = told::Event::from(told);
-            if told.refusal == 0 && told.length != 0 {
-                situation = self.plain[..told.length].to_vec();
-            }
+            let r = &mut self.random;
+            let event = if r.once_in(6) { generate::SECOND } else { generate::event(r, &line) };
+            self.happen(&plan, &mut situation, event);
             self.check(Case::aspects(&plan, &situation, &aspects_room));
             self.check(Case::situation(&plan, &situation));
+        }
+    }
+
+    /// An event on a walk: if it is accepted, the situation becomes what it
+    /// wrote.
+    fn happen(&mut self, plan: &[u8], situation: &mut Vec<u8>, event: Event) {
+        let room = self.room(EVENT_ROOM);
+        let told = self.check(Case::event(plan, situation, &event.to_bytes(), &room));
+        let told = told::Event::from(told);
+        if told.refusal == 0 && told.length != 0 {
+            *situation = self.plain[..told.length].to_vec();
+        }
+    }
+
+    /// A walk over a stray occupation and the seconds after it; on each
+    /// situation the line is read, and an event tried that turns the
+    /// orientation where it is free.
+    fn stray_occupation(&mut self) {
+        let r = &mut self.random;
+        let line = generate::line(r);
+        let plan = line.to_record();
+        let mut situation = generate::empty_line(r, &line).to_record().to_vec();
+        for event in generate::stray_events(r, &line) {
+            self.happen(&plan, &mut situation, event);
+            self.check(Case::reading(&plan, &situation, &[readings::LINE, 0]));
+            let tried = generate::turning_event(&mut self.random, &line);
+            let room = self.room(EVENT_ROOM);
+            self.check(Case::event(&plan, &situation, &tried.to_bytes(), &room));
+        }
+    }
+
+    /// A line with the mark, or on which it may come: a second, every section
+    /// occupied and freed, exit routes by both stations, the line as it is
+    /// read; parts of a key with seconds and slots that end in each of the
+    /// events listed.
+    fn marked_line(&mut self) {
+        let question = generate::question_in_time(&mut self.random, Search::Small);
+        let bytes = generate::question_bytes(&question);
+        let (plan, situation) = (question.line().to_record(), question.situation().to_record());
+        let room = self.room(EVENT_ROOM);
+        self.check(Case::event(&plan, &situation, &generate::SECOND.to_bytes(), &room));
+        for section in 1..=question.line().sections() {
+            for code in [events::OCCUPIED, events::FREED] {
+                self.check(Case::event(&plan, &situation, &[code, section], &room));
+            }
+        }
+        for code in [events::EXIT_NORMAL, events::EXIT_SPECIAL] {
+            for station in 0..2 {
+                self.check(Case::event(&plan, &situation, &[code, station], &room));
+            }
+        }
+        self.check(Case::reading(&plan, &situation, &[readings::LINE, 0]));
+        for place in 1..=question.events().len() {
+            let slot = generate::slot_to(&mut self.random, &question, place);
+            self.check(Case::run(&bytes, &slot));
+            let length = self.room_length();
+            let room = self.room(length);
+            self.check(Case::key(&bytes, &slot, &room));
         }
     }
 
@@ -533,11 +708,11 @@ impl Comparison {
     fn line_in_use(&mut self) {
         let question = generate::question_in_use(&mut self.random);
         let bytes = generate::question_bytes(&question);
-        let (plan, rest) = bytes.split_at(PLAN);
+        let (plan, situation) = (question.line().to_record(), question.situation().to_record());
         let room = self.room(EVENT_ROOM);
         for code in generate::MET {
             for station in 0..2 {
-                self.check(Case::event(plan, &rest[..SITUATION], &[code, station], &room));
+                self.check(Case::event(&plan, &situation, &[code, station], &room));
             }
         }
         for place in 1..=question.events().len() {
@@ -568,10 +743,16 @@ impl Comparison {
         }
     }
 
+    /// An accepted question, with seconds now and then.
+    fn any_question(&mut self, search: Search) -> Question {
+        let r = &mut self.random;
+        if r.once_in(4) { generate::question_in_time(r, search) } else { generate::question(r, search) }
+    }
+
     /// An accepted question: itself, parts of its key, runs.
     fn question(&mut self) {
         let search = if self.random.once_in(400) { Search::Any } else { Search::Small };
-        let question = generate::question(&mut self.random, search);
+        let question = self.any_question(search);
         let bytes = generate::question_bytes(&question);
         self.check(Case::question(&bytes));
         // The first answers, to go on after.
@@ -613,12 +794,12 @@ impl Comparison {
     /// A question of the largest kind, its whole key in one call and parts of
     /// it.
     fn large_question(&mut self) {
-        let mut question = generate::question(&mut self.random, Search::Any);
+        let mut question = self.any_question(Search::Any);
         for _ in 0..50 {
             if question.length() >= 4 && question.events().len() >= 10 {
                 break;
             }
-            question = generate::question(&mut self.random, Search::Any);
+            question = self.any_question(Search::Any);
         }
         let bytes = generate::question_bytes(&question);
         let room = self.room(LARGEST_ROOM);
@@ -635,13 +816,20 @@ impl Comparison {
 
     /// Questions damaged in many ways, through all calls that take one.
     fn damaged_questions(&mut self) {
-        let question = generate::question(&mut self.random, Search::Small);
+        let question = self.any_question(Search::Small);
         for _ in 0..6 {
-            let mut bytes = generate::damaged(&mut self.random, &question);
-            if self.random.once_in(32) {
-                let length = self.random.index(130);
-                bytes = self.room(length);
-            }
+            let r = &mut self.random;
+            let bytes = match r.below(32) {
+                0 => {
+                    let length = r.index(130);
+                    self.room(length)
+                }
+                1..8 => {
+                    let situation = generate::lent_situation(r, question.line());
+                    generate::with_situation(&question, &situation)
+                }
+                _ => generate::damaged(r, &question),
+            };
             self.check(Case::question(&bytes));
             let slot = generate::slot_bytes(&mut self.random, &question, &[]);
             // A damaged length or count must not make a search of its own.
@@ -658,7 +846,7 @@ impl Comparison {
 
     /// One question with each byte changed, cut at each length, lengthened.
     fn damage_sweep(&mut self) {
-        let question = generate::question(&mut self.random, Search::Small);
+        let question = self.any_question(Search::Small);
         let bytes = generate::question_bytes(&question);
         let every_value = self.random.once_in(8);
         let mut changed = bytes.clone();
@@ -690,31 +878,51 @@ impl Comparison {
         self.check(Case::question(&twice));
     }
 
-    /// Every situation in range of the plan 2, 1; on each sound one every
-    /// event, all aspects and every reading.
+    /// Every situation in range of the plan 2, 1, and with every mark and count
+    /// where it is sound; on each sound one every event, all aspects and every
+    /// reading.
     fn small_line(&mut self) {
         let line = Line::new(2, 1).expect("a plan");
         let plan = line.to_record();
         let asked = Asked::all(&line);
         // How many values each byte of a situation has.
         let values = [2u8, 3, 3, 3, 3, 3, 3, 2, 2, 3, 4, 4, 4, 4, 1, 2, 1, 2, 1];
-        let mut body = [0u8; 19];
+        let mut body = [0u8; LENGTH];
         loop {
             // Bit 1 alone is a block signal towards B; towards A it is bit 0.
             let mut bytes = body;
             bytes[15] *= 2;
-            let situation = Situation::from_bytes(&bytes).to_record();
-            let returned = self.check(Case::situation(&plan, &situation));
-            match returned {
-                0 => self.ask(&plan, &situation, &asked),
-                2 => {}
-                _ => println!("unexpected refusal {returned} of {}", hex(&situation)),
+            let situation = Situation::from_bytes(&bytes);
+            if self.ask_if_sound(&plan, &situation.to_record(), &asked) {
+                self.with_marks(&plan, situation, &asked);
             }
             // The next combination.
-            let Some(at) = (0..19).find(|&at| body[at] + 1 < values[at]) else { break };
+            let Some(at) = (0..SHORT_LENGTH).find(|&at| body[at] + 1 < values[at]) else { break };
             body[..at].fill(0);
             body[at] += 1;
         }
+    }
+
+    /// Every mark and count in range on a situation that is sound without them.
+    fn with_marks(&mut self, plan: &[u8], unmarked: Situation, asked: &Asked) {
+        for mark in 0..=1 {
+            for count in 0..=TEN_SECONDS {
+                let situation = Situation { mark, count, ..unmarked };
+                self.ask_if_sound(plan, &situation.to_long_record(), asked);
+            }
+        }
+    }
+
+    /// Everything that can be asked of a situation, if it is sound.
+    fn ask_if_sound(&mut self, plan: &[u8], situation: &[u8], asked: &Asked) -> bool {
+        let returned = self.check(Case::situation(plan, situation));
+        match returned {
+            0 => self.ask(plan, situation, asked),
+            2 => {}
+            20 if situation.starts_with(b"SJ") && situation.ends_with(&[0, 0]) => {}
+            _ => println!("unexpected refusal {returned} of {}", hex(situation)),
+        }
+        returned == 0
     }
 
     fn ask(&mut self, plan: &[u8], situation: &[u8], asked: &Asked) {
@@ -744,7 +952,6 @@ impl Asked {
 }
 
 /// A record with other letters.
-fn with_letters<const N: usize>(mut record: [u8; N], letters: [u8; 2]) -> [u8; N] {
-    record[..2].copy_from_slice(&letters);
-    record
+fn with_letters(record: &[u8], letters: [u8; 2]) -> Vec<u8> {
+    [&letters[..], &record[2..]].concat()
 }

@@ -17,7 +17,9 @@
 //!     plan 4 2
 //!     situation link=1 orientation=1,2 annulment=0,0 exit=0,0 entry=0,0
 //!         pending=0 bilc=0 bslg=0 reminder=0 occupied=1+3 held=2+131
-//!     events sobb A, cobb B, exit A, special B, occupied 3, hold 131, lost, ..
+//!         mark=1 count=0
+//!     events sobb A, cobb B, exit A, special B, occupied 3, hold 131, lost,
+//!         second, ..
 //!     readings signal 1 = 2, orientation A = 1, annulment B = 0, exit A = 1,
 //!         line = 0
 //!     length 4
@@ -37,9 +39,10 @@ use folvkin_compare::plain::{Parts, Question, Situation};
 use folvkin_compare::random::Random;
 
 /// The names of the events, in the order of their codes from 1.
-const EVENTS: [&str; 22] = [
+const EVENTS: [&str; 23] = [
     "sobb", "cobb", "afbli", "afble", "dafbl", "bilc", "dilc", "bslg", "unbslg", "hold", "unhold", "remind",
     "unremind", "exit", "special", "unexit", "entry", "unentry", "occupied", "freed", "lost", "restored",
+    "second",
 ];
 
 /// The names of the readings, in the order of their kinds from 1.
@@ -212,6 +215,8 @@ fn set_field(situation: &mut Situation, field: &str) -> Result<(), String> {
         "bilc" => situation.bilc = one()?,
         "bslg" => situation.bslg = one()?,
         "reminder" => situation.reminder = one()?,
+        "mark" => situation.mark = one()?,
+        "count" => situation.count = one()?,
         "occupied" => {
             for section in text.split('+') {
                 situation.occupied |= bit(number_of(section)?)?;
@@ -275,12 +280,17 @@ fn description(parts: &Parts) -> String {
         let held = members(s.held_towards_b, 0).chain(members(s.held_towards_a, 128)).collect();
         let _ = write!(text, " held={}", sum(held));
     }
+    for (name, value) in [("mark", s.mark), ("count", s.count)] {
+        if value != 0 {
+            let _ = write!(text, " {name}={value}");
+        }
+    }
     for (index, &[code, argument]) in parts.events.iter().enumerate() {
         let name =
             EVENTS.get(usize::from(code).wrapping_sub(1)).map_or(code.to_string(), |name| name.to_string());
         let argument = match code {
             10 | 11 | 19 | 20 => argument.to_string(),
-            21 | 22 if argument == 0 => String::new(),
+            21..=23 if argument == 0 => String::new(),
             _ => station(argument),
         };
         let before = if index == 0 { "; events " } else { ", " };

@@ -1,7 +1,7 @@
 //! "Checks run in the order written; the first that fails gives the refusal."
 
 use super::line::{A, B, TOWARDS_A};
-use super::situation::{AFBLE, AFBLI, IN, NONE, NORMAL, OUT, SPECIAL};
+use super::situation::{AFBLE, AFBLI, IN, NONE, NORMAL, OUT, SPECIAL, TEN_SECONDS};
 use super::{Line, Refusal, Refused, Situation};
 
 pub const SOBB: u8 = 1;
@@ -26,6 +26,7 @@ pub const OCCUPIED: u8 = 19;
 pub const FREED: u8 = 20;
 pub const LINK_LOST: u8 = 21;
 pub const LINK_RESTORED: u8 = 22;
+pub const SECOND: u8 = 23;
 
 /// "An event is two bytes, code and argument."
 #[derive(Clone, Copy, Debug, PartialEq, Eq)]
@@ -54,7 +55,7 @@ impl Event {
             SOBB..=BSLG_RELEASE | REMINDER_ON..=ENTRY_RELEASE => self.argument <= 1,
             BSLB | BSLB_RELEASE => line.is_block_signal(self.argument),
             OCCUPIED | FREED => line.is_section(self.argument),
-            LINK_LOST | LINK_RESTORED => self.argument == 0,
+            LINK_LOST | LINK_RESTORED | SECOND => self.argument == 0,
             _ => return Err(Refusal::Code),
         };
         refuse_if(!in_range, Refusal::Argument)
@@ -127,12 +128,7 @@ impl Situation {
                 Ok(())
             }
             OCCUPIED => self.occupy(line, event.argument),
-            FREED => {
-                let section = section_bit(event.argument);
-                refuse_if(self.occupied & section == 0, Refusal::AlreadySo)?;
-                self.occupied &= !section;
-                Ok(())
-            }
+            FREED => self.free(event.argument),
             LINK_LOST => {
                 refuse_if(self.link == 0, Refusal::AlreadySo)?;
                 self.link = 0;
@@ -145,6 +141,10 @@ impl Situation {
                 if !matches!(self.orientation, [OUT, IN] | [IN, OUT]) {
                     self.orientation = [NONE; 2];
                 }
+                Ok(())
+            }
+            SECOND => {
+                self.pass_second();
                 Ok(())
             }
             _ => Err(Refusal::Code),
@@ -167,9 +167,11 @@ impl Situation {
     /// What the refusal of an event names, in the situation that refused it.
     fn name(&self, event: Event, refusal: Refusal) -> u8 {
         match refusal {
+            // "A running count alone gives 13 with section 0."
+            Refusal::TrackNotFree if self.occupied == 0 => 0,
             // "13 stays for an occupied section and now names the lowest
             // occupied one."
-            Refusal::SectionOccupied => self.occupied.trailing_zeros() as u8 + 1,
+            Refusal::TrackNotFree => self.occupied.trailing_zeros() as u8 + 1,
             // "Refusal 9 names the station that holds the route, own where own
             // is checked, else A first if both do."
             Refusal::ExitRoute => match event.code {
@@ -234,12 +236,15 @@ impl Situation {
             if self.orientation[own] == IN {
                 // What else a free line needs holds here: link is up, and own
                 // has no exit route.
-                refuse_if(self.occupied != 0, Refusal::SectionOccupied)?;
+                refuse_if(self.occupied != 0 || self.count > 0, Refusal::TrackNotFree)?;
                 refuse_if(self.exit[own ^ 1] != 0, Refusal::OtherExitRoute)?;
                 self.orient(own);
             }
         }
         self.exit[own] = kind;
+        // "An accepted exit route clears both."
+        self.mark = 0;
+        self.count = 0;
         Ok(())
     }
 
@@ -249,18 +254,47 @@ impl Situation {
         let owner = line.owner(section);
         let is_first = section == line.first_section(owner);
         let was_free = self.line_is_free();
-        let stays = self.annulment[owner] == NONE
-            || (is_first && self.annulment[owner] == AFBLE)
-            || self.is_expected(line, section, owner);
-        if !stays {
-            self.annulment[owner] = NONE;
+        if !self.is_expected(line, section, owner) {
+            // "A mark is set when a section becomes occupied, unexpected by
+            // 01, while neither station has an exit route."
+            if !self.has_exit_route() {
+                self.mark = 1;
+            }
+            if !(is_first && self.annulment[owner] == AFBLE) {
+                self.annulment[owner] = NONE;
+            }
         }
         if is_first && self.orientation[owner] == IN && was_free {
             self.orient(owner);
         }
         self.occupied |= bit;
         self.pending = 0;
+        // "A new occupation sets the count to 0 and keeps the mark."
+        self.count = 0;
         Ok(())
+    }
+
+    /// "When the last section clears with that mark set and no exit route set,
+    /// a count of 10 starts."
+    fn free(&mut self, section: u8) -> Applied {
+        let bit = section_bit(section);
+        refuse_if(self.occupied & bit == 0, Refusal::AlreadySo)?;
+        self.occupied &= !bit;
+        if self.occupied == 0 && self.mark == 1 && !self.has_exit_route() {
+            self.count = TEN_SECONDS;
+        }
+        Ok(())
+    }
+
+    /// "Each second lowers it; when that brings it to 0 the mark goes; with no
+    /// count running a second changes nothing."
+    fn pass_second(&mut self) {
+        if self.count > 0 {
+            self.count -= 1;
+            if self.count == 0 {
+                self.mark = 0;
+            }
+        }
     }
 
     /// A section that becomes occupied is expected "if s's area has a

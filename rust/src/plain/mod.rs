@@ -1,6 +1,6 @@
-//! Document 01 with request 01 of document 02, written from the documents
-//! alone. Codes are bytes, sets of sections are `u16` with bit k-1 for section
-//! k, nothing allocates except the key's text.
+//! Document 01 with requests 01 and 02 of document 02, written from the
+//! documents alone. Codes are bytes, sets of sections are `u16` with bit k-1
+//! for section k, nothing allocates except the key's text.
 
 pub mod aspects;
 pub mod events;

@@ -29,7 +29,7 @@ pub struct Question {
     length: u8,
 }
 
-/// Whether an event is listed twice, of events in range: codes up to 22,
+/// Whether an event is listed twice, of events in range: codes up to 23,
 /// arguments up to 16 or from 129 to 144.
 #[inline]
 fn lists_twice(events: &[[u8; 2]]) -> bool {
@@ -51,7 +51,7 @@ impl<'a> Parts<'a> {
     pub fn split(bytes: &'a [u8]) -> Result<Parts<'a>, Refusal> {
         let rest = &mut { bytes };
         let &[sections, frontier] = records::plan(rest)?;
-        let &situation = records::situation(rest)?;
+        let situation = records::situation(rest)?;
         records::letters(rest, b"EV")?;
         let &[count] = records::take(rest)?;
         if !(1..=MOST_EVENTS).contains(&usize::from(count)) {
@@ -117,7 +117,8 @@ impl<'a> Parts<'a> {
 
     /// How many bytes the question takes.
     pub fn byte_length(&self) -> usize {
-        records::PLAN + records::SITUATION + 3 + 2 * self.events.len() + 3 + 3 * self.readings.len() + 3
+        let situation = records::situation_length(&self.situation);
+        records::PLAN + situation + 3 + 2 * self.events.len() + 3 + 3 * self.readings.len() + 3
     }
 
     /// Writes the byte form of any parts, accepted or not, into just enough

@@ -3,13 +3,19 @@
 //! the records that they are in a question, so theirs are also read and
 //! written alone.
 
-use super::{Line, Refusal, Situation, situation};
+use std::ops::Deref;
+
+use super::situation::{LENGTH, SHORT_LENGTH};
+use super::{Line, Refusal, Situation};
 
 /// The length of record LB: its letters, n, b.
 pub const PLAN: usize = 4;
 
 /// The length of record SI: its letters and 19 bytes.
-pub const SITUATION: usize = 2 + situation::LENGTH;
+pub const SI: usize = 2 + SHORT_LENGTH;
+
+/// The length of record SJ: two bytes more, the mark and the count.
+pub const SJ: usize = 2 + LENGTH;
 
 /// Takes `N` bytes off the front.
 #[inline]
@@ -46,11 +52,34 @@ pub fn plan<'a>(bytes: &mut &'a [u8]) -> Result<&'a [u8; 2], Refusal> {
     take(bytes)
 }
 
-/// "SI, 19 bytes": these, whatever they are.
+/// "SI, 19 bytes", or "SJ is SI with the mark and the count added": the
+/// situation's bytes, whatever they are, but "20 for SJ with both zero".
 #[inline]
-pub fn situation<'a>(bytes: &mut &'a [u8]) -> Result<&'a [u8; situation::LENGTH], Refusal> {
-    letters(bytes, b"SI")?;
-    take(bytes)
+pub fn situation(bytes: &mut &[u8]) -> Result<[u8; LENGTH], Refusal> {
+    match take::<2>(bytes)? {
+        b"SI" => {
+            let mut body = [0; LENGTH];
+            body[..SHORT_LENGTH].copy_from_slice(take::<SHORT_LENGTH>(bytes)?);
+            Ok(body)
+        }
+        b"SJ" => {
+            let &body = take(bytes)?;
+            if is_short(&body) { Err(Refusal::Form) } else { Ok(body) }
+        }
+        _ => Err(Refusal::Form),
+    }
+}
+
+/// "SI means both zero": mark and count.
+#[inline]
+fn is_short(body: &[u8; LENGTH]) -> bool {
+    body[SHORT_LENGTH..] == [0, 0]
+}
+
+/// How long the record of a situation is.
+#[inline]
+pub fn situation_length(body: &[u8; LENGTH]) -> usize {
+    if is_short(body) { SI } else { SJ }
 }
 
 /// Bytes that are exactly one record.
@@ -69,10 +98,48 @@ pub fn plan_record(sections: u8, frontier: u8) -> [u8; PLAN] {
     [b'L', b'B', sections, frontier]
 }
 
+/// The record of a situation, SI or SJ.
+#[derive(Clone, Copy, Debug, PartialEq, Eq)]
+pub struct SituationRecord {
+    bytes: [u8; SJ],
+    length: usize,
+}
+
+impl Deref for SituationRecord {
+    type Target = [u8];
+
+    #[inline]
+    fn deref(&self) -> &[u8] {
+        &self.bytes[..self.length]
+    }
+}
+
 #[inline]
-pub fn situation_record(body: &[u8; situation::LENGTH]) -> [u8; SITUATION] {
-    let mut record = [0; SITUATION];
-    record[..2].copy_from_slice(b"SI");
+pub fn situation_record(body: &[u8; LENGTH]) -> SituationRecord {
+    let mut bytes = [0; SJ];
+    let length = write_situation(body, &mut bytes);
+    SituationRecord { bytes, length }
+}
+
+/// Writes the record of a situation: its length. Bytes after it keep their
+/// values.
+#[inline]
+pub fn write_situation(body: &[u8; LENGTH], room: &mut [u8]) -> usize {
+    if is_short(body) {
+        room[..2].copy_from_slice(b"SI");
+        room[2..SI].copy_from_slice(&body[..SHORT_LENGTH]);
+        SI
+    } else {
+        room[..SJ].copy_from_slice(&long_record(body));
+        SJ
+    }
+}
+
+/// The record SJ, also where both are zero.
+#[inline]
+pub fn long_record(body: &[u8; LENGTH]) -> [u8; SJ] {
+    let mut record = [0; SJ];
+    record[..2].copy_from_slice(b"SJ");
     record[2..].copy_from_slice(body);
     record
 }
@@ -86,7 +153,13 @@ impl Line {
 
 impl Situation {
     #[inline]
-    pub fn to_record(&self) -> [u8; SITUATION] {
+    pub fn to_record(&self) -> SituationRecord {
         situation_record(&self.to_bytes())
+    }
+
+    /// Its record as SJ, also where both are zero.
+    #[inline]
+    pub fn to_long_record(&self) -> [u8; SJ] {
+        long_record(&self.to_bytes())
     }
 }

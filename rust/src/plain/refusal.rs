@@ -27,8 +27,8 @@ pub enum Refusal {
     Bilc = 11,
     /// The own orientation does not allow it.
     Orientation = 12,
-    /// The own station is in and a section is occupied.
-    SectionOccupied = 13,
+    /// The own station is in and a section is occupied, or the count runs.
+    TrackNotFree = 13,
     /// The blocking reminder is on.
     Reminder = 14,
     /// The own station is in, "a free track with an exit route at the other
@@ -47,7 +47,8 @@ pub enum Refusal {
 }
 
 /// A refusal and whom or what it names: a station by its argument, a section
-/// by its number. 9 names a station and 13 a section, all others have 0.
+/// by its number. 9 names a station and 13 a section, 0 where only the count
+/// runs; all others have 0.
 #[derive(Clone, Copy, Debug, PartialEq, Eq)]
 pub struct Refused {
     pub refusal: Refusal,

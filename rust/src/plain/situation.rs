@@ -1,4 +1,4 @@
-//! The situation, its 19 bytes and when it is sound.
+//! The situation, its bytes and when it is sound.
 
 use super::line::{A, B};
 use super::{Line, Refusal};
@@ -15,7 +15,14 @@ pub const NORMAL: u8 = 1;
 pub const SPECIAL: u8 = 2;
 
 /// The length of record SI without its letters.
-pub const LENGTH: usize = 19;
+pub const SHORT_LENGTH: usize = 19;
+
+/// The length of record SJ without its letters: "SI with the mark and the
+/// count added, a byte each". A situation's bytes are these.
+pub const LENGTH: usize = SHORT_LENGTH + 2;
+
+/// What the count starts at.
+pub const TEN_SECONDS: u8 = 10;
 
 /// Pairs are indexed by station. `bilc`, `bslg` and `reminder` have bit 0 for
 /// A and bit 1 for B.
@@ -33,6 +40,10 @@ pub struct Situation {
     pub bilc: u8,
     pub bslg: u8,
     pub reminder: u8,
+    /// 1 after a stray occupation.
+    pub mark: u8,
+    /// The seconds until the line is free again, 0 while none are counted.
+    pub count: u8,
 }
 
 impl Situation {
@@ -50,6 +61,8 @@ impl Situation {
         bilc: 0,
         bslg: 0,
         reminder: 0,
+        mark: 0,
+        count: 0,
     };
 
     /// The fields as they stand in the bytes, in range or not.
@@ -69,6 +82,8 @@ impl Situation {
             occupied: u16::from_le_bytes([s[13], s[14]]),
             held_towards_b: u16::from_le_bytes([s[15], s[16]]),
             held_towards_a: u16::from_le_bytes([s[17], s[18]]),
+            mark: s[19],
+            count: s[20],
         }
     }
 
@@ -97,6 +112,8 @@ impl Situation {
             b1,
             a0,
             a1,
+            self.mark,
+            self.count,
         ]
     }
 
@@ -123,6 +140,8 @@ impl Situation {
             && self.occupied & !all == 0
             && self.held_towards_b & !(all & !1) == 0
             && self.held_towards_a & !(all & !line.last()) == 0
+            && self.mark <= 1
+            && self.count <= TEN_SECONDS
     }
 
     #[inline(always)]
@@ -158,14 +177,19 @@ impl Situation {
                 self.link == 1 && self.annulment[asker] == NONE && self.orientation[asker] != OUT
             }
         };
-        orientations && station(A) && station(B) && pending
+        // "A count above 0 only with the mark set and no section occupied, and
+        // a mark only with no exit route and either a section occupied or a
+        // count above 0."
+        let count = self.count == 0 || (self.mark == 1 && self.occupied == 0);
+        let mark = self.mark == 0 || (!self.has_exit_route() && (self.occupied != 0 || self.count > 0));
+        orientations && station(A) && station(B) && pending && count && mark
     }
 
     /// "The line is free when link is up, no section is occupied and neither
-    /// station has an exit route."
+    /// station has an exit route"; while the count runs it is not.
     #[inline]
     pub fn line_is_free(&self) -> bool {
-        self.link == 1 && self.occupied == 0 && !self.has_exit_route()
+        self.link == 1 && self.occupied == 0 && !self.has_exit_route() && self.count == 0
     }
 
     #[inline]
