@@ -7,7 +7,7 @@ use borrow.Author.Tests.{eqb-true, eqb-false}
 use lib.Dec.{eqb}
 use Rattle.words.specs.Words.{_and_, if_then_else_}
 use Rattle.words.proofs.Tests.{and-false, not-equal, if-case}
-use Rattle.rulebook.specs.Situation.{Situation, Kept, out, inward, seen-from, station, any-exit-route, count-runs, none-occupied, _is-in}
+use Rattle.rulebook.specs.Situation.{Track, Situation, Kept, out, inward, seen-from, station, any-exit-route, count-runs, none-occupied, _is-in}
 use Rattle.rulebook.specs.Judged.{judged}
 use Rattle.rulebook.specs.Place.{Place, place}
 use Rattle.rulebook.specs.Events.{turns}
@@ -19,6 +19,7 @@ use Rattle.block.specs.declared.line.Name.the-variants.{StationA, StationB}
 use Rattle.block.specs.declared.event.Event.{Event}
 use Rattle.rulebook.proofs.StationsKept.{next}
 use Rattle.rulebook.proofs.RefusedUnchanged.{refused-unchanged}
+use Rattle.rulebook.proofs.WatchRight.{track-seen}
 use Rattle.rulebook.specs.Laws.{CountKeepsLine, CountKeepsOrientations}
 
 pub count-keeps-line : CountKeepsLine
@@ -26,10 +27,6 @@ count-keeps-line x runs =
     ap (λ (r : Bool). x .traffic .link and (none-occupied (x .traffic .track) and not r) and not (any-exit-route x)) runs
     ∙ ap (λ (v : Bool). x .traffic .link and v and not (any-exit-route x)) (and-false (none-occupied (x .traffic .track)))
     ∙ ap (λ (v : Bool). v and not (any-exit-route x)) (and-false (x .traffic .link))
-
-runs-seen : (s : Name) (x : Situation) → count-runs (seen-from s x .traffic .track .watch) ≡ count-runs (x .traffic .track .watch)
-runs-seen StationA x = refl
-runs-seen StationB x = refl
 
 -- seen twice, a station is as it was
 back : (own s : Name) (x y : Situation) → y .traffic .own .orientation ≡ seen-from own x .traffic .own .orientation → y .traffic .other .orientation ≡ seen-from own x .traffic .other .orientation
@@ -54,7 +51,7 @@ module _ (p : Plan) (x : Kept) (k : ℕ) (runs : count-runs (x .traffic .track .
 
   not-turned : turns here seen ≡ false
   not-turned =
-      ap (λ (v : Bool). here .first and (seen .traffic .own is-in) and v) (count-keeps-line seen (runs-seen own x ∙ runs))
+      ap (λ (v : Bool). here .first and (seen .traffic .own is-in) and v) (count-keeps-line seen (ap (λ (t : Track). count-runs (t .watch)) (track-seen own x) ∙ runs))
       ∙ and-false (here .first and (seen .traffic .own is-in))
 
   reached-so : station (reached p x e) s .orientation ≡ station x s .orientation

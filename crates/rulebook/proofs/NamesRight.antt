@@ -33,6 +33,7 @@ use Rattle.rulebook.proofs.InTable.{All, Known, by-test, by-equation, a
 use Rattle.rulebook.proofs.Judged.{judged-plan, judged-sound}
 use Rattle.rulebook.proofs.LowestSection.{Lowest, NoneOf, lowest, lowest-of-none, lowest-below}
 use Rattle.rulebook.proofs.SoundnessKept.{parts}
+use Rattle.rulebook.proofs.WatchRight.{track-seen}
 use Rattle.rulebook.specs.Laws.{LowestOccupied, CountAlone, ThirteenNames, FifteenMeans, NineNames, OthersNameNothing}
 
 -- ---- what a row's refusal says of its checks
@@ -174,10 +175,6 @@ own-seen StationB x = refl
 other-seen : (s : Name) (x : Kept) → seen-from s x .traffic .other ≡ station x (opposite s)
 other-seen StationA x = refl
 other-seen StationB x = refl
-
-track-seen : (s : Name) (x : Kept) → seen-from s x .traffic .track ≡ x .traffic .track
-track-seen StationA x = refl
-track-seen StationB x = refl
 
 either : (a b : Bool) → (a or b) ≡ true → a ≡ false → b ≡ true
 either true b e off = absurd (false≢true (sym off))

@@ -34,7 +34,7 @@ use Rattle.rulebook.proofs.SoundnessKept.{soundness-kept}
 use Rattle.rulebook.specs.Laws.{unexpected, mark-after, count-after, one-second, seconds, MarkedWithOneLeft, WatchRule, TenSeconds}
 
 -- ---- as either station sees it
-track-seen : (s : Name) (x : Situation) → seen-from s x .traffic .track ≡ x .traffic .track
+pub track-seen : (s : Name) (x : Situation) → seen-from s x .traffic .track ≡ x .traffic .track
 track-seen StationA x = refl
 track-seen StationB x = refl
 
