@@ -3,14 +3,15 @@
  * Link with libfolvkin.a (`rt staticlib folvkin` writes it to
  * target/staticlib; it is x86-64 code for Linux). Plans, situations, events,
  * questions, slots and sheet lines cross it as the bytes of document 01,
- * "Scope and exact rules: integrated line block papers"; docs/RECORDS.md has
- * every byte of them.
+ * "Scope and exact rules: integrated line block papers", with requests 01 and
+ * 02 of document 02; docs/RECORDS.md has every byte of them.
  *
  *   plan       the record LB, 4 bytes, as it stands in a question
- *   situation  the record SI, 21 bytes, as it stands in a question
+ *   situation  the record SI, 21 bytes, or SJ, 23 bytes, where a mark is set
+ *              or a count runs, as it stands in a question
  *   event      two bytes, code and argument
  *   reading    two bytes, kind and argument
- *   question   the records LB, SI, EV, RD, LN end to end: the plan, the
+ *   question   the records LB, SI or SJ, EV, RD, LN end to end: the plan, the
  *              situation and the rest laid one after the other
  *   slot       six bytes, a sequence of events: its length, then their places
  *              in EV from 1, then zeros
@@ -50,13 +51,15 @@
  *   10  the own entry route is set
  *   11  BILC is set
  *   12  the own orientation does not allow it
- *   13  the own station is in and a section is occupied; it names the lowest
- *       occupied section by its number
+ *   13  the own station is in, and a section is occupied or a count runs (the
+ *       ten seconds after a stray occupation); it names the lowest occupied
+ *       section by its number, 0 where a count runs alone
  *   14  the blocking reminder is on
- *   15  the own station is in, no section is occupied and the other station has
- *       an exit route
- *   20  a record with wrong letters, bytes missing or left over, a count out
- *       of range; an event or a reading of another length than two
+ *   15  the own station is in, no section is occupied, no count runs and the
+ *       other station has an exit route
+ *   20  a record with wrong letters, bytes missing or left over, an EV or RD
+ *       count out of range, SJ with mark and count zero; an event or a
+ *       reading of another length than two
  *   21  LN above 5, an event listed twice, a reading out of range
  *   22  continuation or candidate's slot malformed, or not of six bytes
  *   23  numeric question or unit byte out of range

@@ -1,18 +1,20 @@
 #!/usr/bin/env python3
 """question-cases.py PAPER..: prints cases `question HEX<TAB>REFUSAL` for papers near accepted ones, each given as a file of its bytes: every
 single-byte change to a dozen telling values, every cut, and every lengthening by one byte. question-cases.py --verify FILE holds the judgment to
-the `question` cases of FILE. The judgment is written from document 01 alone."""
+the `question` cases of FILE. The judgment is written from document 01 and requests 01 and 02 of document 02 alone."""
 import sys
 
-MARKS = [b"LB", b"SI", b"EV", b"RD", b"LN"]
-TELLING = [0, 1, 2, 3, 4, 5, 6, 7, 12, 13, 22, 23, 127, 128, 129, 255]
+MARKS = [(b"LB",), (b"SI", b"SJ"), (b"EV",), (b"RD",), (b"LN",)]
+SIZES = {b"LB": 2, b"SI": 19, b"SJ": 21, b"LN": 1}
+TELLING = [0, 1, 2, 3, 4, 5, 6, 7, 10, 11, 12, 13, 23, 24, 127, 128, 129, 255]
 
 
 def parts(paper):
     """The bodies of the five records, or None where the form is not whole."""
     bodies, at = [], 0
-    for mark in MARKS:
-        if paper[at:at + 2] != mark:
+    for marks in MARKS:
+        mark = paper[at:at + 2]
+        if mark not in marks:
             return None
         at += 2
         if mark in (b"EV", b"RD"):
@@ -21,8 +23,10 @@ def parts(paper):
                 return None
             size = 1 + width * paper[at]
         else:
-            size = {b"LB": 2, b"SI": 19, b"LN": 1}[mark]
+            size = SIZES[mark]
         if at + size > len(paper):
+            return None
+        if mark == b"SJ" and paper[at + 19:at + 21] == b"\0\0":
             return None
         bodies.append(paper[at:at + size])
         at += size
@@ -40,11 +44,20 @@ def station(own, annulment, exit_route, bilc):
     return not (exit_route == 2 and annulment == 1)
 
 
+def watched(mark, count, occupied, exits):
+    """What soundness asks of mark and count."""
+    if mark > 1 or count > 10 or (count and (not mark or occupied)):
+        return False
+    return not (mark and (any(exits) or not (occupied or count)))
+
+
 def sound(n, si):
     link, orient, annul, exits, pending = si[0], si[1:3], si[3:5], si[5:7], si[9]
     if link > 1 or max(orient) > 2 or max(annul) > 2 or max(exits) > 2 or max(si[7:9]) > 1 or pending > 2 or max(si[10:13]) > 3:
         return False
     occupied, held_b, held_a = (si[at] + 256 * si[at + 1] for at in (13, 15, 17))
+    if len(si) == 21 and not watched(si[19], si[20], occupied, exits):
+        return False
     if (occupied | held_b | held_a) >> n or held_b & 1 or held_a >> (n - 1) & 1:
         return False
     if link and sorted(orient) not in ([0, 0], [1, 2]):
@@ -66,7 +79,7 @@ def argument_right(n, code, argument):
         return 1 <= section <= n and not exit_signal
     if code in (19, 20):
         return 1 <= argument <= n
-    if code in (21, 22):
+    if code in (21, 22, 23):
         return argument == 0
     return argument <= 1
 
@@ -90,7 +103,7 @@ def refusal(paper):
         return 2
     events = [(ev[at], ev[at + 1]) for at in range(1, len(ev), 2)]
     for code, argument in events:
-        if not 1 <= code <= 22:
+        if not 1 <= code <= 23:
             return 3
         if not argument_right(n, code, argument):
             return 4
