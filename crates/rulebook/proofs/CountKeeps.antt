@@ -2,21 +2,20 @@
 use Prim.Native.Nat.{ℕ}
 use mathlib.Core.Bool.{Bool, true, false, not}
 use mathlib.Core.Path.{_≡_, refl, ap, _∙_}
-use native.Mathlib.Omega.{arith}
 use borrow.Author.Tests.{eqb-true, eqb-false}
 use lib.Dec.{eqb}
 use Rattle.words.specs.Words.{_and_, if_then_else_}
-use Rattle.words.proofs.Tests.{and-false, not-equal, if-case}
+use Rattle.words.proofs.Tests.{and-false}
 use Rattle.rulebook.specs.Situation.{Track, Situation, Kept, out, inward, seen-from, station, any-exit-route, count-runs, none-occupied, _is-in}
-use Rattle.rulebook.specs.Judged.{judged}
 use Rattle.rulebook.specs.Place.{Place, place}
 use Rattle.rulebook.specs.Events.{turns}
 use Rattle.rulebook.specs.Table.{Occupied, kind-of}
-use Rattle.rulebook.specs.Apply.{led-at, event, argument-right, spot, own-refusal, reached, accepted, refused, acted, stepped, applied, Outcome}
+use Rattle.rulebook.specs.Apply.{led-at, event, spot, reached, accepted, refused, applied}
 use Rattle.block.specs.declared.line.Plan.{Plan}
 use Rattle.block.specs.declared.line.Name.{Name}
 use Rattle.block.specs.declared.line.Name.the-variants.{StationA, StationB}
 use Rattle.block.specs.declared.event.Event.{Event}
+use Rattle.rulebook.proofs.WhenAccepted.{when-accepted}
 use Rattle.rulebook.proofs.StationsKept.{next}
 use Rattle.rulebook.proofs.RefusedUnchanged.{refused-unchanged}
 use Rattle.rulebook.proofs.WatchRight.{track-seen}
@@ -61,21 +60,9 @@ module _ (p : Plan) (x : Kept) (k : ℕ) (runs : count-runs (x .traffic .track .
       (ap (λ (v : Bool). if v then out else seen .traffic .own .orientation) not-turned)
       (ap (λ (v : Bool). if v then inward else seen .traffic .other .orientation) not-turned)
 
-  abbrev Stays : Outcome → Type 0
-  Stays o = o .refusal ≡ 0 → station (o .next) s .orientation ≡ station x s .orientation
-
-  accepted-so : Stays (applied p x e)
-  unfolding stepped acted
-  accepted-so =
-      if-case Stays (eqb (judged p x) 0) (stepped p x e) (refused (judged p x) x)
-      (λ u.
-      if-case Stays (not (argument-right p e)) (refused 4 x) _ (λ r h. absurd (omega (arith, h))) λ r.
-      if-case Stays (eqb (own-refusal p x e) 0) (accepted (reached p x e)) (refused (own-refusal p x e) x) (λ a h. reached-so) (λ a h. absurd (not-equal (own-refusal p x e) 0 a h)))
-      (λ u h. absurd (not-equal (judged p x) 0 u h))
-
   -- a refused event hands the situation back
   either-way : (v : Bool) → eqb (applied p x e .refusal) 0 ≡ v → station (applied p x e .next) s .orientation ≡ station x s .orientation
-  either-way true h = accepted-so (eqb-true (applied p x e .refusal) 0 h)
+  either-way true h = when-accepted p x e (λ (y : Kept). station y s .orientation ≡ station x s .orientation) (λ k r a. reached-so) (eqb-true (applied p x e .refusal) 0 h)
   either-way false h = ap (λ (y : Kept). station y s .orientation) (refused-unchanged p x e (eqb-false (applied p x e .refusal) 0 h))
 
 pub count-keeps-orientations : CountKeepsOrientations

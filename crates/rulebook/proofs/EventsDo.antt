@@ -7,17 +7,15 @@ use native.Mathlib.Omega.{arith}
 use borrow.Author.Tests.{not-false}
 use lib.Dec.{T, eqb}
 use Rattle.words.specs.Words.{_and_, _or_}
-use Rattle.words.proofs.Tests.{twice-not, not-equal, if-case}
 use Rattle.sections.specs.Sections.{_belongs-to_, _with-section_, _without-section_}
 use Rattle.sections.proofs.SetLaws.{has-with-same, has-without-same}
 use Rattle.block.specs.Line.{isPlan}
-use Rattle.rulebook.specs.Judged.{judged}
 use Rattle.block.proofs.PlanLaws.{plan-short}
 use Rattle.rulebook.specs.Place.{place}
 use Rattle.rulebook.specs.Situation.{Situation, Kept, own-sobb, withPending, held, held-towards, with-held-towards, seen-from, kept-from, _is-out, _is-in}
 use Rattle.rulebook.specs.Sound.{stationsSound, sound}
 use Rattle.rulebook.specs.Table.{Kind, Sobb, Cobb, Afbli, Afble, Dafbl, Bilc, Dilc, Bslg, BslgOff, Bslb, BslbOff, Reminder, ReminderOff, ExitNormal, ExitSpecial, ExitReleased, Entry, EntryReleased, Occupied, Freed, LinkLost, LinkRestored, table, section, signal, kind-of}
-use Rattle.rulebook.specs.Apply.{refuses, leads, refusal-at, led-at, known, argument-right, spot, own-refusal, reached, accepted, refused, acted, stepped, applied, Outcome}
+use Rattle.rulebook.specs.Apply.{refuses, leads, refusal-at, led-at, argument-right, spot, own-refusal, reached, accepted, applied}
 use Rattle.block.specs.declared.line.Plan.{Plan}
 use Rattle.block.specs.declared.line.Name.{Name}
 use Rattle.block.specs.declared.line.Name.the-variants.{StationA, StationB}
@@ -26,6 +24,7 @@ use Rattle.block.specs.declared.line.Direction.the-variants.{TowardsA, TowardsB
 use Rattle.block.specs.declared.event.Event.{Event}
 use Rattle.block.specs.declared.event.Spot.{Spot}
 use Rattle.rulebook.proofs.Settled.{stays}
+use Rattle.rulebook.proofs.WhenAccepted.{when-accepted}
 use Rattle.rulebook.proofs.InTable.{All, Known, at-code, its-code}
 use Rattle.rulebook.proofs.Every.{everywhere-at}
 use Rattle.rulebook.proofs.Accepted.{passed}
@@ -196,9 +195,6 @@ module _ (q : Plan) (plan : T (isPlan q)) (x : Kept) (e : Event) (t : T (sound q
   abbrev seen : Situation
   seen = seen-from (at .own) x
 
-  Done : Outcome → Type 0
-  Done o = o .refusal ≡ 0 → (so-at q e x ≡ false) × (so-at q e (o .next) ≡ true)
-
   reached-done : Known (e .code) → T (argument-right q e) → T (eqb (own-refusal q x e) 0) → (so-at q e x ≡ false) × (so-at q e (reached q x e) ≡ true)
   unfolding refusal-at led-at
   reached-done ok right a =
@@ -207,20 +203,8 @@ module _ (q : Plan) (plan : T (isPlan q)) (x : Kept) (e : Event) (t : T (sound q
       let named : (y : Situation) → so k at y ≡ says (e .code) deeds at y = λ y. ap (λ (c : ℕ). says c deeds at y) (its-code (e .code) ok) in
       (sym (named seen) ∙ does .0, ap (says (e .code) deeds at) (seen-twice (at .own) (leads k at seen)) ∙ sym (named (leads k at seen)) ∙ does .1)
 
-  stepped-done : Done (stepped q x e)
-  unfolding Done stepped acted
-  stepped-done =
-      if-case Done (not (known e)) (refused 3 x) _ (λ u h. absurd (omega (arith, h))) λ k.
-      if-case Done (not (argument-right q e)) (refused 4 x) _ (λ u h. absurd (omega (arith, h))) λ r.
-      if-case Done (eqb (own-refusal q x e) 0) (accepted (reached q x e)) (refused (own-refusal q x e) x)
-      (λ a h. reached-done (twice-not (known e) k) (twice-not (argument-right q e) r) a)
-      (λ a h. absurd (not-equal (own-refusal q x e) 0 a h))
-
   applied-done : applied q x e .refusal ≡ 0 → (so-at q e x ≡ false) × (so-at q e (applied q x e .next) ≡ true)
-  unfolding Done
-  applied-done =
-      if-case Done (eqb (judged q x) 0) (stepped q x e) (refused (judged q x) x) (λ u. stepped-done)
-      (λ u h. absurd (not-equal (judged q x) 0 u h))
+  applied-done = when-accepted q x e (λ (y : Kept). (so-at q e x ≡ false) × (so-at q e y ≡ true)) reached-done
 
   applied-changes : applied q x e .refusal ≡ 0 → applied q x e .next ≡ x → ⊥
   applied-changes h same = let d = applied-done h in subst T (sym (d .1) ∙ ap (so-at q e) same ∙ d .0) tt

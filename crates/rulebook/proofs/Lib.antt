@@ -2,6 +2,7 @@ pub mod Judged
 pub mod Settled
 pub mod SecondPasses
 pub mod InTable
+pub mod WhenAccepted
 pub mod WatchByCode
 pub mod RefusalsBelow
 pub mod Every

@@ -3,16 +3,14 @@
 use Prim.Native.Nat.{ℕ}
 use mathlib.Core.Bool.{Bool, true, false, not, Bool·beq}
 use mathlib.Core.Path.{_≡_, refl, ap, ap₂, _∙_, subst}
-use native.Mathlib.Omega.{arith}
 use lib.Dec.{eqb}
 use Rattle.words.specs.Words.{_and_, _or_, if_then_else_}
-use Rattle.words.proofs.Tests.{twice-not, not-equal, if-case, or-turned}
-use Rattle.rulebook.specs.Judged.{judged}
+use Rattle.words.proofs.Tests.{or-turned}
 use Rattle.rulebook.specs.Pending.{changes, orientation-change}
 use Rattle.rulebook.specs.Place.{Place, place}
 use Rattle.rulebook.specs.Situation.{Situation, Kept, nobody, own-sobb, turned, turnedRound, seen-from}
 use Rattle.rulebook.specs.Table.{Kind, Sobb, table, kind-of}
-use Rattle.rulebook.specs.Apply.{led-at, known, argument-right, spot, own-refusal, reached, accepted, refused, acted, stepped, applied, Outcome}
+use Rattle.rulebook.specs.Apply.{led-at, spot, reached, accepted}
 use Rattle.block.specs.declared.line.Plan.{Plan}
 use Rattle.block.specs.declared.line.Name.{Name}
 use Rattle.block.specs.declared.line.Name.the-variants.{StationA, StationB}
@@ -21,6 +19,7 @@ use Rattle.block.specs.declared.event.Spot.{Spot}
 use Rattle.block.specs.declared.codes.Orientation.{Orientation}
 use Rattle.block.specs.declared.codes.Pending.{Pending}
 use Rattle.rulebook.specs.Laws.{same, any-orientation-change, AFBLI-or-AFBLE, section-becoming-occupied, link-loss, asked-by, pending-after, PendingRule}
+use Rattle.rulebook.proofs.WhenAccepted.{when-accepted}
 use Rattle.rulebook.proofs.InTable.{All, Known, by-equation, at-code, its-code}
 use Rattle.rulebook.proofs.Frame.{Framed, framed}
 use Rattle.rulebook.proofs.StationsKept.{next}
@@ -68,9 +67,6 @@ module _ (q : Plan) (x : Kept) (e : Event) where
   abbrev at : Spot
   at = spot q e
 
-  Ruled : Outcome → Type 0
-  Ruled o = o .refusal ≡ 0 → o .next .traffic .pending ≡ pending-after (e .code) (at .own) x (o .next)
-
   reached-ruled : Known (e .code) → reached q x e .traffic .pending ≡ pending-after (e .code) (at .own) x (reached q x e)
   unfolding led-at
   reached-ruled ok =
@@ -81,19 +77,5 @@ module _ (q : Plan) (x : Kept) (e : Event) where
       (subst (λ (c : ℕ). next k here y .traffic .pending ≡ pending-after c StationA y (next k here y)) (its-code (e .code) ok)
       (own-rule k here y (at-code (λ f. f .clears-pending ≡ cause (f .code)) causes (e .code) ok) (framed (e .code) ok here y)))
 
-  stepped-ruled : Ruled (stepped q x e)
-  unfolding Ruled stepped acted
-  stepped-ruled =
-      if-case Ruled (not (known e)) (refused 3 x) _ (λ u h. absurd (omega (arith, h))) λ k.
-      if-case Ruled (not (argument-right q e)) (refused 4 x) _ (λ u h. absurd (omega (arith, h))) λ r.
-      if-case Ruled (eqb (own-refusal q x e) 0) (accepted (reached q x e)) (refused (own-refusal q x e) x)
-      (λ a h. reached-ruled (twice-not (known e) k)) (λ a h. absurd (not-equal (own-refusal q x e) 0 a h))
-
-  applied-ruled : applied q x e .refusal ≡ 0 → applied q x e .next .traffic .pending ≡ pending-after (e .code) (at .own) x (applied q x e .next)
-  unfolding Ruled
-  applied-ruled =
-      if-case Ruled (eqb (judged q x) 0) (stepped q x e) (refused (judged q x) x) (λ u. stepped-ruled)
-      (λ u h. absurd (not-equal (judged q x) 0 u h))
-
 pub pending-rule : PendingRule
-pending-rule = applied-ruled
+pending-rule q x e = when-accepted q x e (λ (y : Kept). y .traffic .pending ≡ pending-after (e .code) (spot q e .own) x y) (λ k r a. reached-ruled q x e k)

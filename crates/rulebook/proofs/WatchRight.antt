@@ -7,7 +7,7 @@ use native.Mathlib.Omega.{arith}
 use borrow.Author.Tests.{eq-eqb, ne-eqb, lt-leb}
 use lib.Dec.{T, eqb, leb, leb→le}
 use Rattle.words.specs.Words.{_and_, if_then_else_}
-use Rattle.words.proofs.Tests.{twice-not, not-equal, if-case, holds-is, and-at, and-true, or-turned}
+use Rattle.words.proofs.Tests.{holds-is, and-at, and-true, or-turned}
 use Rattle.sections.specs.Sections.{none, _belongs-to_, only, _without-section_}
 use Rattle.sections.proofs.SetLaws.{has-without-same, has-without-other, no-sections}
 use Rattle.sections.proofs.SetsOfSets.{in-only}
@@ -19,7 +19,7 @@ use Rattle.rulebook.specs.Judged.{judged}
 use Rattle.rulebook.specs.Place.{Place, place}
 use Rattle.rulebook.specs.Events.{brings-to-0}
 use Rattle.rulebook.specs.Table.{Freed, kind-of}
-use Rattle.rulebook.specs.Apply.{refusal-at, led-at, event, known, argument-right, spot, own-refusal, reached, accepted, refused, acted, stepped, applied, Outcome}
+use Rattle.rulebook.specs.Apply.{refusal-at, led-at, event, spot, own-refusal, reached, accepted, refused, applied, Outcome}
 use Rattle.block.specs.declared.line.Plan.{Plan}
 use Rattle.block.specs.declared.line.Name.{Name}
 use Rattle.block.specs.declared.line.Name.the-variants.{StationA, StationB}
@@ -27,6 +27,7 @@ use Rattle.block.specs.declared.event.Event.{Event}
 use Rattle.block.specs.declared.event.Spot.{Spot}
 use Rattle.rulebook.proofs.SecondPasses.{from-one, last-second, there, lowered, second-passes, leads-there}
 use Rattle.rulebook.proofs.Judged.{judged-accepts}
+use Rattle.rulebook.proofs.WhenAccepted.{when-accepted}
 use Rattle.rulebook.proofs.InTable.{Known, its-code}
 use Rattle.rulebook.proofs.WatchByCode.{ruled, own-rule}
 use Rattle.rulebook.proofs.StationsKept.{next}
@@ -53,9 +54,6 @@ module _ (q : Plan) (x : Kept) (e : Event) where
   abbrev seen : Situation
   seen = seen-from (at .own) x
 
-  abbrev Ruled : Outcome → Type 0
-  Ruled o = o .refusal ≡ 0 → o .next .traffic .track .watch ≡ record { mark = mark-after q x e; count = count-after (e .code) x (o .next) }
-
   reached-ruled : Known (e .code) → reached q x e .traffic .track .watch ≡ record { mark = mark-after q x e; count = count-after (e .code) x (reached q x e) }
   unfolding led-at
   reached-ruled ok =
@@ -74,21 +72,9 @@ module _ (q : Plan) (x : Kept) (e : Event) where
       ∙ ap (λ (v : Watch). ruled (e .code) v stray routed (eqb (v .count) 1) clears) same
       ∙ ap₂ (λ (r c : Bool). ruled (e .code) (x .traffic .track .watch) stray r (eqb (x .traffic .track .watch .count) 1) c) (routes-seen (at .own) x) (ap none-occupied (sym back))
 
-  stepped-ruled : Ruled (stepped q x e)
-  unfolding stepped acted
-  stepped-ruled =
-      if-case Ruled (not (known e)) (refused 3 x) _ (λ u h. absurd (omega (arith, h))) λ k.
-      if-case Ruled (not (argument-right q e)) (refused 4 x) _ (λ u h. absurd (omega (arith, h))) λ r.
-      if-case Ruled (eqb (own-refusal q x e) 0) (accepted (reached q x e)) (refused (own-refusal q x e) x)
-      (λ a h. reached-ruled (twice-not (known e) k)) (λ a h. absurd (not-equal (own-refusal q x e) 0 a h))
-
-  applied-ruled : Ruled (applied q x e)
-  applied-ruled =
-      if-case Ruled (eqb (judged q x) 0) (stepped q x e) (refused (judged q x) x) (λ u. stepped-ruled)
-      (λ u h. absurd (not-equal (judged q x) 0 u h))
-
 pub watch-rule : WatchRule
-watch-rule = applied-ruled
+watch-rule q x e =
+    when-accepted q x e (λ (y : Kept). y .traffic .track .watch ≡ record { mark = mark-after q x e; count = count-after (e .code) x y }) (λ k r a. reached-ruled q x e k)
 
 -- ---- the ten seconds
 -- the count runs over a free track
