@@ -97,7 +97,7 @@ QUESTION = {20: resized('LN', 4), **BLOCK, 3: put('EV', 3, 0), 4: put('EV', 6, 9
 FAULTS = {
     'plan': {20: resized('plan', 5), 1: BLOCK[1]},
     'sound': {20: resized('situation', 22), **BLOCK},
-    'event': {20: resized('event', 3), **BLOCK, 3: put('event', 0, 23), 4: put('event', 1, 2), 24: short, OWN: put('event', 0, 2)},
+    'event': {20: resized('event', 3), **BLOCK, 3: put('event', 0, 255), 4: put('event', 1, 2), 24: short, OWN: put('event', 0, 2)},
     'aspects': {20: resized('plan', 3), **BLOCK, 24: short},
     'reading': {20: resized('reading', 1), **BLOCK, 21: put('reading', 1, 2)},
     'question': QUESTION,
