@@ -94,8 +94,8 @@ fn event_written(plan: Plan, x: Situation, event: Event, room: &mut [u8]) -> u64
     65536 * (length as u64)
 }
 
-// Refusal + 2^8 name + 2^16 length; 13 names the lowest occupied section (0 where a count runs alone), 9 the station that holds the exit route (0 A, 1 B). An accepted event writes the situation after it, as records; later bytes keep their values, and a refused one
-// changes no byte.
+// Refusal + 2^8 name + 2^16 length; 13 names the lowest occupied section (0 where a count runs alone), 9 the station that holds the exit route
+// (0 A, 1 B). An accepted event writes the situation after it, as records; later bytes keep their values, and a refused one changes no byte.
 #[no_mangle]
 pub extern "C" fn folvkin_event(plan: &[u8], situation: &[u8], event: &[u8], room: &mut [u8]) -> u64
     ensures { λ r. ⌜ r ≡ event-packed (given (now (plan .entry)) (now (situation .entry))) (now (event .entry)) (now (room .entry)) ⌝ }
