@@ -18,8 +18,7 @@ use Rattle.block.specs.declared.reading.Reading.{Reading}
 use Rattle.rulebook.specs.Situation.{Kept}
 use Rattle.rulebook.specs.Sound.{sound}
 use Rattle.rulebook.specs.Judged.{judged}
-use Rattle.rulebook.specs.Apply.{applied, Outcome}
-use Rattle.rulebook.specs.Laws.{along}
+use Rattle.rulebook.specs.Apply.{applied, Outcome, along, at-the-end}
 use Rattle.rulebook.proofs.SoundnessKept.{soundness-kept}
 use Rattle.signals.specs.Readings.{can-be-read, highest-value, reading-in-range, value-read, reading-holds, told, nothing-told}
 use Rattle.rules.specs.RulesOf.{all-hold}
@@ -33,7 +32,7 @@ use Rattle.paper.proofs.ReadBytes.{read-is-accepted}
 use Rattle.keys.specs.Key.{question-in}
 use Rattle.folvkin.specs.Block.{reading-told, packed}
 use Rattle.calllaws.specs.EventCalls.{Lent, events-lent, Rooms96, event-call, records-left, AllAnswer0, records-at-the-end, reading-call, AllGive}
-use Rattle.calllaws.specs.Answers.{AllAccepted, at-the-end, Right}
+use Rattle.calllaws.specs.Answers.{AllAccepted, Right}
 use Rattle.calllaws.specs.Laws.{ShownByCalls, CallsAgree}
 use Rattle.calllaws.proofs.OneEvent.{says, answers, goes-on}
 use Rattle.calllaws.proofs.RightSequences.{complete}
@@ -70,7 +69,7 @@ module _ (p : Plan) (planned : T (isPlan p)) (plan : List ℕ) where
     judged-right : judged p x ≡ 0
     judged-right = rw (holds-is (isPlan p) planned, holds-is (sound p x) s)
 
-    value-told : (r : Reading) → reading-in-range p (r .kind) (r .argument) (r .value) ≡ true → reading-call plan bytes r ≡ 256 * value-read p x (r .kind) (r .argument)
+    pub value-told : (r : Reading) → reading-in-range p (r .kind) (r .argument) (r .value) ≡ true → reading-call plan bytes r ≡ 256 * value-read p x (r .kind) (r .argument)
     value-told r h =
         let readable = both (can-be-read p (r .kind) (r .argument)) (leb (r .value) (highest-value (r .kind))) h .0 in
         let told-so : reading-call plan bytes r ≡ packed (told (value-read p x (r .kind) (r .argument))) =
@@ -88,7 +87,7 @@ module _ (p : Plan) (planned : T (isPlan p)) (plan : List ℕ) where
         let held = both (reading-holds p x (r .kind) (r .argument) (r .value)) (all-hold p rs x) k in
         (value-told r (range .0) ∙ ap (λ (n : ℕ). 256 * n) (eqb-true _ _ (held .0)), all-give rs (range .1) (held .1))
 
-    all-held : (rs : List Reading) → readings-in-range p rs ≡ true → AllGive plan bytes rs → all-hold p rs x ≡ true
+    pub all-held : (rs : List Reading) → readings-in-range p rs ≡ true → AllGive plan bytes rs → all-hold p rs x ≡ true
     unfolding readings-in-range all-hold
     all-held [] h k = refl
     all-held (r ∷ rs) h k =

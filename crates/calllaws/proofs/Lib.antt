@@ -8,3 +8,4 @@ pub mod OneEvent
 pub mod CallsAgree
 pub mod KeysStay
 pub mod RunStops
+pub mod FirstRuleShown

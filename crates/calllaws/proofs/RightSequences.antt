@@ -11,8 +11,7 @@ use Rattle.keylaws.specs.Key.{reached, Accepted, Answer, _among_}
 use Rattle.keylaws.proofs.Among.{among-at, in-map, of-map}
 use Rattle.block.specs.declared.event.Event.{Event}
 use Rattle.rulebook.specs.Situation.{Kept}
-use Rattle.rulebook.specs.Apply.{stepped, Outcome}
-use Rattle.rulebook.specs.Laws.{along}
+use Rattle.rulebook.specs.Apply.{stepped, Outcome, along, at-the-end}
 use Rattle.rulebook.proofs.StepsAgree.{steps-agree}
 use Rattle.rules.specs.RulesOf.{all-hold}
 use Rattle.lists.proofs.RightLists.{ListsRight, lists-right}
@@ -21,7 +20,7 @@ use Rattle.paper.specs.Refusal.{refusalOf}
 use Rattle.paper.proofs.Accepted as paper
 use Rattle.keys.specs.Key.{rules, key-of}
 use Rattle.keys.proofs.KeyOfAQuestion.{exactly-the-answers, in-order, each-once, extension-later}
-use Rattle.calllaws.specs.Answers.{events-of, events-in-key, outcomes, AllAccepted, at-the-end, Right}
+use Rattle.calllaws.specs.Answers.{events-of, events-in-key, outcomes, AllAccepted, Right}
 use Rattle.calllaws.specs.Laws.{Complete}
 use Rattle.calllaws.proofs.EventsApart.{permitted-events, places, known-by-events}
 

@@ -3,23 +3,18 @@
 use Prim.Native.Nat.{ℕ, _+_, _<_}
 use mathlib.Core.Path.{_≡_, sym, ap, ap₂, subst, _∙_}
 use mathlib.Core.Bool.{true}
-use mathlib.Core.List.{List, [], _∷_}
+use mathlib.Core.List.{List}
 use lib.ListN.{length, take, getD}
-use lib.Dec.{T}
 use borrow.Author.Tests.{eq-eqb}
 use Rattle.keylaws.specs.Key.{reached}
 use Rattle.keylaws.specs.Slots.{wordOf, isSlot}
 use Rattle.keylaws.specs.Run.{stopped}
 use Rattle.keylaws.proofs.RunTells as any-rules
-use Rattle.block.specs.Line.{isPlan}
-use Rattle.block.specs.declared.line.Plan.{Plan}
 use Rattle.block.specs.declared.event.Event.{Event}
 use Rattle.rulebook.specs.Situation.{Kept}
-use Rattle.rulebook.specs.Sound.{sound}
-use Rattle.rulebook.specs.Apply.{stepped, applied, Outcome}
+use Rattle.rulebook.specs.Apply.{stepped, applied, Outcome, along, at-the-end}
 use Rattle.rulebook.specs.Names.{name}
-use Rattle.rulebook.specs.Laws.{along}
-use Rattle.rulebook.proofs.SoundnessKept.{soundness-kept}
+use Rattle.rulebook.proofs.SoundnessKept.{sound-after}
 use Rattle.rulebook.proofs.StepsAgree.{one-step}
 use Rattle.records.specs.Lists.{event-at}
 use Rattle.rules.proofs.RunNames.{names-there}
@@ -30,14 +25,9 @@ use Rattle.paper.proofs.ReadBytes.{read-is-accepted}
 use Rattle.keys.specs.Key.{question-in, rules}
 use Rattle.keys.specs.Calls.{told, slot-run}
 use Rattle.folvkin.specs.Questions.{packed-run}
-use Rattle.calllaws.specs.Answers.{events-of, outcomes, AllAccepted, at-the-end}
+use Rattle.calllaws.specs.Answers.{events-of, outcomes, AllAccepted}
 use Rattle.calllaws.specs.Laws.{RunStops}
 use Rattle.calllaws.proofs.RightSequences.{accepted-turns, reached-at-the-end, agree}
-
--- where events lead from a sound situation is sound
-end-sound : (p : Plan) → T (isPlan p) → (events : List Event) (x : Kept) → T (sound p x) → T (sound p (at-the-end x (along (applied p) x events)))
-end-sound p plan [] x s = s
-end-sound p plan (e ∷ events) x s = end-sound p plan events (applied p x e .next) (soundness-kept p plan x e s)
 
 module _ (q : Question) (right : refusalOf q ≡ 0) (slot : List ℕ) (is : isSlot (rules q .events) (q .length) slot ≡ true) (i : ℕ) (h : i < length (wordOf slot)) where
   before : List Outcome
@@ -67,7 +57,7 @@ module _ (q : Question) (right : refusalOf q ≡ 0) (slot : List ℕ) (is : isSl
   unfolding x before refusal
   tried =
       ap (λ (y : Kept). stepped (q .plan) y e .refusal) here
-      ∙ ap (λ (o : Outcome). o .refusal) (one-step (q .plan) (ok .plan) x (end-sound (q .plan) (ok .plan) (events-of q (take i (wordOf slot))) (q .situation) (ok .situation)) e)
+      ∙ ap (λ (o : Outcome). o .refusal) (one-step (q .plan) (ok .plan) x (sound-after (q .plan) (ok .plan) (q .situation) (ok .situation) (events-of q (take i (wordOf slot)))) e)
 
   slot-stops : AllAccepted before → (refusal ≡ 0 → ⊥) → slot-run q slot ≡ told (stopped (i + 1) refusal) (name (q .plan) x e refusal)
   unfolding slot-run e

@@ -6,9 +6,7 @@ use mathlib.Core.List.{List, [], _∷_, map, List·Memᴰ}
 use lib.ListN.{length as size}
 use Rattle.keylaws.specs.Rules.{Word}
 use Rattle.block.specs.declared.event.Event.{Event}
-use Rattle.rulebook.specs.Situation.{Kept}
-use Rattle.rulebook.specs.Apply.{applied, Outcome}
-use Rattle.rulebook.specs.Laws.{along}
+use Rattle.rulebook.specs.Apply.{applied, Outcome, along, at-the-end}
 use Rattle.records.specs.Lists.{event-at}
 use Rattle.rules.specs.RulesOf.{all-hold}
 use Rattle.paper.specs.Question.{Question}
@@ -29,11 +27,6 @@ outcomes q events = along (applied (q .plan)) (q .situation) events
 abbrev pub AllAccepted : List Outcome → Type 0
 AllAccepted [] = Unit {0}
 AllAccepted (o ∷ rest) = (o .refusal ≡ 0) × AllAccepted rest
-
--- the situation at the end
-abbrev pub at-the-end : Kept → List Outcome → Kept
-at-the-end x [] = x
-at-the-end x (o ∷ rest) = at-the-end (o .next) rest
 
 -- all are permitted
 abbrev pub Permitted : Question → List Event → Type 0

@@ -201,6 +201,8 @@ table =
     ∷ ((SOBB at A gives 0 ∷ COBB at B gives 0 ∷ exit-route at A gives 0 ∷ exit-route at B gives 15 naming 0 ∷ occupied at 1 gives 0 ∷ special-exit at B gives 13 naming 1 ∷ []) then [])
     ∷ ((SOBB at B gives 0 ∷ COBB at A gives 0 ∷ exit-route at B gives 0 ∷ SOBB at A gives 9 naming B ∷ AFBLI at B gives 9 naming B ∷ []) then [])
     ∷ ((AFBLE at A gives 0 ∷ special-exit at A gives 0 ∷ DAFBL at A gives 0 ∷ AFBLE at B gives 0 ∷ special-exit at B gives 0 ∷ DAFBL at B gives 0 ∷ SOBB at B gives 9 naming A ∷ AFBLE at B gives 9 naming B ∷ BILC at A gives 9 naming A ∷ []) then [])
+    -- both exit signals off red, over two sections, under AFBLE (beside 02, Req 03)
+    ∷ ((AFBLE at A gives 0 ∷ AFBLE at B gives 0 ∷ special-exit at A gives 0 ∷ special-exit at B gives 0 ∷ []) then (towards-B-show (2 ∷ 1 ∷ 0 ∷ 0 ∷ []) ∷ towards-A-show (0 ∷ 0 ∷ 1 ∷ 2 ∷ []) ∷ []))
     -- ten seconds after a stray occupation (02, Req 02): 13 names section 0, the line is not free, and its first section does not turn it
     ∷ ((SOBB at A gives 0 ∷ COBB at B gives 0 ∷ occupied at 3 gives 0 ∷ freed at 3 gives 0 ∷ exit-route at B gives 13 naming 0 ∷ 9 seconds-pass ∷ exit-route at B gives 13 naming 0 ∷ 1 seconds-pass ∷ exit-route at B gives 0 ∷ [])
     then (orientation B is 1 ∷ []))

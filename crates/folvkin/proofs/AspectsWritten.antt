@@ -20,10 +20,10 @@ use Rattle.block.specs.declared.line.Direction.{Direction}
 use Rattle.block.specs.declared.line.Direction.the-variants.{TowardsA, TowardsB}
 use Rattle.rulebook.specs.Situation.{Kept}
 use Rattle.records.proofs.InBytes.{part-from}
-use Rattle.signals.specs.Aspects.{code, shows, is-open, aspect}
+use Rattle.aspects.specs.Aspects.{code, shows, is-open, aspect}
 use Rattle.signals.specs.SignalSets.{those, is-green, shown}
 use Rattle.signals.specs.declared.lights.Lights.{Lights}
-use Rattle.signals.proofs.LitLaws.{Sized, sized}
+use Rattle.block.proofs.PlanLaws.{Sized, sized}
 use Rattle.signals.proofs.TwoSignals.{shown-is}
 use Rattle.folvkin.specs.ShownInTurn.{first-shown}
 use Rattle.folvkin.specs.Block.{signal-at, first-aspects}

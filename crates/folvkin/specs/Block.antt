@@ -14,7 +14,7 @@ use Rattle.block.specs.declared.event.Event.{Event}
 use Rattle.rulebook.specs.Situation.{Kept}
 use Rattle.rulebook.specs.Apply.{event, own-refusal, reached}
 use Rattle.rulebook.specs.Names.{name}
-use Rattle.signals.specs.Aspects.{aspect}
+use Rattle.aspects.specs.Aspects.{aspect}
 use Rattle.signals.specs.Readings.{reading, nothing-told}
 use Rattle.signals.specs.declared.readings.Told.{Told}
 use Rattle.records.specs.Plan.{plan}

@@ -13,7 +13,7 @@ use Rattle.records.specs.Lists.{events, readings, answer-length, event-at}
 use Rattle.records.specs.Question.{question}
 use Rattle.lists.specs.Refusal.{event-refusal, events-refusal, listed, listed-twice, readings-in-range, lists-refusal}
 use Rattle.rulebook.specs.Apply.{refusal-at, led-at, acted, stepped}
-use Rattle.signals.specs.Aspects.{shows}
+use Rattle.aspects.specs.Aspects.{shows}
 use Rattle.signals.specs.Readings.{value-read}
 use Rattle.rules.specs.RulesOf.{all-hold}
 use Rattle.keylaws.specs.Key.{emptyIf, through, inTurn, answers, reached}

@@ -108,23 +108,37 @@ atOwn x p own = everyStation (x .traffic .other) (λ other. every 3 (atLinks x p
 abbrev pub everywhere : Situation → (Situation → Bool) → Bool
 everywhere x p = everyStation (x .traffic .own) (atOwn x p)
 
-pub everywhere-at : (p : Situation → Bool) (x : Situation) → T (everywhere x p) → T (stationsSound x) → T (p x)
-everywhere-at p x h ok =
+-- what soundness says of stations, link and pending SOBB
+pub record StationParts (x : Situation) : Type 0 where
+  pub own : T (stationSound (x .traffic .own))
+  pub other : T (stationSound (x .traffic .other))
+  pub link-up : T (link-up-agrees x)
+  pub link-down : T (link-down-apart x)
+  pub pending : T (pending-sound x)
+
+pub station-parts : (x : Situation) → T (stationsSound x) → StationParts x
+station-parts x ok =
     let a : Bool = stationSound (x .traffic .own) in
     let b : Bool = stationSound (x .traffic .other) in
     let u : Bool = link-up-agrees x in
     let d : Bool = link-down-apart x in
+    let s₁ = and-at (a and b and u and d) (pending-sound x) ok in
+    let s₂ = and-at (a and b and u) d (s₁ .0) in
+    let s₃ = and-at (a and b) u (s₂ .0) in
+    let s₄ = and-at a b (s₃ .0) in
+    record { own = s₄ .0; other = s₄ .1; link-up = s₃ .1; link-down = s₂ .1; pending = s₁ .1 }
+
+pub everywhere-at : (p : Situation → Bool) (x : Situation) → T (everywhere x p) → T (stationsSound x) → T (p x)
+everywhere-at p x h ok =
+    let s = station-parts x ok in
+    let d : Bool = link-down-apart x in
     let q : Bool = pending-sound x in
-    let s₁ : T (a and b and u and d) × T q = and-at (a and b and u and d) q ok in
-    let s₂ : T (a and b and u) × T d = and-at (a and b and u) d (s₁ .0) in
-    let s₃ : T (a and b) × T u = and-at (a and b) u (s₂ .0) in
-    let s₄ : T a × T b = and-at a b (s₃ .0) in
     given-at q (λ w. p x)
     (given-at d (λ v. given q (λ w. p x))
-    (given-at u (λ u′. given d (λ v. given q (λ w. p x)))
+    (given-at (link-up-agrees x) (λ u. given d (λ v. given q (λ w. p x)))
     (every-at 3 (atLinks x p (x .traffic .own) (x .traffic .other))
-    (everyStation-at (x .traffic .other) (λ t. every 3 (atLinks x p (x .traffic .own) t)) (everyStation-at (x .traffic .own) (atOwn x p) h (s₄ .0)) (s₄ .1))
+    (everyStation-at (x .traffic .other) (λ t. every 3 (atLinks x p (x .traffic .own) t)) (everyStation-at (x .traffic .own) (atOwn x p) h (s .own)) (s .other))
     (x .traffic .link) (x .traffic .pending .own) (x .traffic .pending .other))
-    (s₃ .1))
-    (s₂ .1))
-    (s₁ .1)
+    (s .link-up))
+    (s .link-down))
+    (s .pending)

@@ -22,6 +22,7 @@ pub mod EventsDo
 pub mod PendingRule
 pub mod FreshSound
 pub mod OneDirection
+pub mod NotBothOut
 pub mod StepsAgree
 pub mod AsIn01
 pub mod LowestSection

@@ -1,5 +1,6 @@
 -- "Every accepted event leads from a sound situation to a sound one." Assumes nothing.
 use mathlib.Core.Bool.{not}
+use mathlib.Core.List.{List, [], _∷_}
 use native.Mathlib.Omega.{arith}
 use lib.Dec.{T, eqb}
 use borrow.Author.Tests.{eq-eqb}
@@ -12,7 +13,7 @@ use Rattle.rulebook.specs.Place.{Place, place}
 use Rattle.rulebook.specs.Situation.{Situation, Kept, turnedRound, seen-from}
 use Rattle.rulebook.specs.Sound.{stationsSound, setsSound, watchSound, sound}
 use Rattle.rulebook.specs.Table.{Kind, kind-of}
-use Rattle.rulebook.specs.Apply.{refuses, refusal-at, led-at, known, argument-right, spot, own-refusal, reached, accepted, refused, acted, stepped, applied, Outcome}
+use Rattle.rulebook.specs.Apply.{refuses, refusal-at, led-at, known, argument-right, spot, own-refusal, reached, accepted, refused, acted, stepped, applied, Outcome, after-events}
 use Rattle.block.specs.declared.line.Plan.{Plan}
 use Rattle.block.specs.declared.line.Name.{Name}
 use Rattle.block.specs.declared.line.Name.the-variants.{StationA, StationB}
@@ -25,7 +26,7 @@ use Rattle.rulebook.proofs.StationsKept as stations
 use Rattle.rulebook.proofs.StationsKept.{next, turned-sound, stations-kept}
 use Rattle.rulebook.proofs.SetsKept.{sets-kept}
 use Rattle.rulebook.proofs.WatchKept.{watch-kept, watch-turned}
-use Rattle.rulebook.specs.Laws.{SoundnessKept, MethodsSound}
+use Rattle.rulebook.specs.Laws.{SoundnessKept, MethodsSound, SoundAfter}
 
 -- the conjuncts of soundness
 pub record Parts (q : Plan) (x : Situation) : Type 0 where
@@ -96,3 +97,10 @@ soundness-kept = applied-sound
 
 pub methods-sound : MethodsSound
 methods-sound p plan x e t ok right a = led-sound p plan x e t ok right (is-holds _ (eq-eqb _ 0 a))
+
+after-sound : (p : Plan) → T (isPlan p) → (events : List Event) (x : Kept) → T (sound p x) → T (sound p (after-events p x events))
+after-sound p plan [] x t = t
+after-sound p plan (e ∷ events) x t = after-sound p plan events (applied p x e .next) (soundness-kept p plan x e t)
+
+pub sound-after : SoundAfter
+sound-after p plan x t events = after-sound p plan events x t

@@ -7,12 +7,12 @@ use Rattle.words.specs.Words.{if_then_else_}
 use Rattle.block.specs.Line.{isPlan}
 use Rattle.rulebook.specs.Situation.{Kept}
 use Rattle.rulebook.specs.Sound.{sound}
-use Rattle.rulebook.specs.Apply.{refused, stepped, applied, Outcome}
+use Rattle.rulebook.specs.Apply.{refused, stepped, applied, Outcome, along}
 use Rattle.block.specs.declared.line.Plan.{Plan}
 use Rattle.block.specs.declared.event.Event.{Event}
 use Rattle.rulebook.proofs.Judged.{judged-accepts}
 use Rattle.rulebook.proofs.SoundnessKept.{stepped-sound}
-use Rattle.rulebook.specs.Laws.{along, StepsAgree}
+use Rattle.rulebook.specs.Laws.{StepsAgree}
 
 module _ (p : Plan) (plan : T (isPlan p)) where
   pub one-step : (x : Kept) → T (sound p x) → (e : Event) → stepped p x e ≡ applied p x e

@@ -1,6 +1,7 @@
 -- "An event is two bytes, code and argument." An event applied: "Order: .. 1, 2, 3, 4, .. then the event's own."
 use Prim.Native.Nat.{ℕ}
 use mathlib.Core.Bool.{Bool, not}
+use mathlib.Core.List.{List, [], _∷_}
 use lib.Dec.{eqb, leb}
 use Rattle.words.specs.Words.{_or_, if_then_else_}
 use Rattle.block.specs.Line.{is-section, owner, station-named, direction-of, section-of, is-block-signal}
@@ -93,3 +94,17 @@ module _ (p : Plan) (x : Kept) (e : Event) where
 
   abbrev pub applied : Outcome
   applied = if eqb (judged p x) 0 then stepped else refused (judged p x) x
+
+-- ---- events one after the other, each where the one before has led
+abbrev pub along : (Kept → Event → Outcome) → Kept → List Event → List Outcome
+along f x [] = []
+along f x (e ∷ events) = f x e ∷ along f (f x e .next) events
+
+-- the situation at the end
+abbrev pub at-the-end : Kept → List Outcome → Kept
+at-the-end x [] = x
+at-the-end x (o ∷ rest) = at-the-end (o .next) rest
+
+-- after any events, unknown codes and wrong arguments too: each leads on as it is applied, and a refused one leaves the situation
+abbrev pub after-events : Plan → Kept → List Event → Kept
+after-events p x events = at-the-end x (along (applied p) x events)

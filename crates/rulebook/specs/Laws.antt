@@ -8,13 +8,13 @@ use lib.Dec.{T, eqb}
 use Rattle.words.specs.Words.{_and_, _or_, if_then_else_}
 use Rattle.sections.specs.Sections.{_belongs-to_, only}
 use Rattle.block.specs.Line.{isPlan, is-section, opposite}
-use Rattle.rulebook.specs.Situation.{Station, Situation, Kept, areaDirection, fresh, nobody, seen-from, station, held, any-exit-route, none-occupied, count-runs, track-free, line-free, withStations, withTrack, withWatch, normal, special, _is-out, _is-in, _is-none, _annulled, _under-AFBLI, _under-AFBLE, _has-exit-route}
+use Rattle.rulebook.specs.Situation.{Station, Situation, Kept, areaDirection, fresh, nobody, seen-from, station, held, any-exit-route, both-out, none-occupied, count-runs, track-free, line-free, withStations, withTrack, withWatch, normal, special, _is-out, _is-in, _is-none, _annulled, _under-AFBLI, _under-AFBLE, _has-exit-route}
 use Rattle.rulebook.specs.Sound.{stationSound, sound}
 use Rattle.rulebook.specs.Checks.{Row, ⟶_, _┃_, _when_, enough-when_}
 use Rattle.rulebook.specs.Place.{Place, expected}
 use Rattle.rulebook.specs.Events.{exit}
 use Rattle.rulebook.specs.Table.{Kind, kind, keeps, Sobb, Cobb, Afbli, Afble, Dafbl, Bilc, Dilc, Bslg, BslgOff, Bslb, BslbOff, Reminder, ReminderOff, ExitNormal, ExitSpecial, ExitReleased, Entry, EntryReleased, Occupied, Freed, LinkLost, LinkRestored, Second, kind-of}
-use Rattle.rulebook.specs.Apply.{refuses, leads, refusal-at, led-at, event, known, argument-right, spot, own-refusal, accepted, refused, stepped, applied, Outcome}
+use Rattle.rulebook.specs.Apply.{refuses, leads, refusal-at, led-at, event, known, argument-right, spot, own-refusal, accepted, refused, stepped, applied, Outcome, along, after-events}
 use Rattle.rulebook.specs.Names.{station-argument, name}
 use Rattle.block.specs.declared.line.Plan.{Plan}
 use Rattle.block.specs.declared.line.Name.{Name}
@@ -151,11 +151,16 @@ PendingRule =
 abbrev pub OneDirection : Type 0
 OneDirection = (t : Station) → T (stationSound t) → T (not (areaDirection t .out and areaDirection t .inward))
 
--- ---- along every run from a sound situation an event is judged as if plan and situation were judged again each time
-abbrev pub along : (Kept → Event → Outcome) → Kept → List Event → List Outcome
-along f x [] = []
-along f x (e ∷ events) = f x e ∷ along f (f x e .next) events
+-- in no sound situation are both stations oriented out
+abbrev pub NotBothOut : Type 0
+NotBothOut = (p : Plan) (x : Situation) → T (sound p x) → both-out x ≡ false
 
+-- ---- events one after the other
+-- any events, refused ones included, lead from a sound situation to a sound one
+abbrev pub SoundAfter : Type 0
+SoundAfter = (p : Plan) → T (isPlan p) → (x : Kept) → T (sound p x) → (events : List Event) → T (sound p (after-events p x events))
+
+-- along every run from a sound situation an event is judged as if plan and situation were judged again each time
 abbrev pub StepsAgree : Type 0
 StepsAgree = (p : Plan) → T (isPlan p) → (x : Kept) → T (sound p x) → (events : List Event) → along (stepped p) x events ≡ along (applied p) x events
 

@@ -19,7 +19,7 @@ use Rattle.situation.specs.Packed.{unpacked}
 use Rattle.situation.specs.CodeSets.{own-codes, other-codes}
 use Rattle.situation.proofs.CodeSets.{six-all, by-value, agrees}
 use Rattle.situation.specs.declared.Situation.{Situation as Packed}
-use Rattle.signals.specs.Aspects.{aspect}
+use Rattle.aspects.specs.Aspects.{aspect}
 use Rattle.signals.specs.Readings.{line-read, value-read, reading-holds}
 use Rattle.signals.specs.CodesRead.{of-station, codes-of, codes-where}
 use Rattle.signals.proofs.CodesRead.{in-codes, line-is}

@@ -16,7 +16,7 @@ use Rattle.block.specs.Line.{isPlan}
 use Rattle.situation.specs.Packed.{unpacked}
 use Rattle.situation.specs.declared.Situation.{Situation as Packed}
 use Rattle.situation.specs.CodeSets.{own-codes, other-codes, for-value}
-use Rattle.signals.specs.Aspects.{aspect}
+use Rattle.aspects.specs.Aspects.{aspect}
 use Rattle.signals.specs.CodesRead.{of-station, codes-where}
 use Rattle.signals.specs.Readings.{line-read}
 use Rattle.rules.specs.declared.wanted.Wanted.{Wanted}

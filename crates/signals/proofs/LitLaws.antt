@@ -4,51 +4,23 @@ use mathlib.Core.Path.{_≡_, refl, sym, ap, ap₂, subst, _∙_}
 use mathlib.Core.Bool.{Bool, true, false, not}
 use native.Mathlib.Omega.{arith}
 use native.Mathlib.Decide.{decLt, ℕ-discrete}
-use lib.Dec.{T, eqb, leb, ltb, leb→le}
-use borrow.Author.Tests.{ltb-true, leb-true, eq-eqb, ne-eqb, le-leb, lt-leb}
+use lib.Dec.{T, eqb, leb}
+use borrow.Author.Tests.{leb-true, eq-eqb, ne-eqb, le-leb, lt-leb}
 use Rattle.words.specs.Words.{_and_, _or_, if_then_else_}
 use Rattle.sections.specs.Sections.{none, _belongs-to_, only}
 use Rattle.sections.specs.Sets.{both, either, _minus_, up-to, one-down, one-up}
-use Rattle.words.proofs.Tests.{and-at, is-holds, holds-is}
 use Rattle.sections.proofs.SetLaws.{none-has}
 use Rattle.sections.proofs.SetsOfSets.{in-both, in-either, in-minus, in-only, in-given, in-one-down, in-one-up, in-up-to}
 use Rattle.block.specs.Line.{isPlan, is-section, owner, first-section, is-exit, entrance, terminus, after, same-station, across-frontier}
+use Rattle.block.proofs.PlanLaws.{Sized, sized, Within, within}
 use Rattle.rulebook.specs.Situation.{Kept, station, areaDirection, held, _has-exit-route}
 use Rattle.block.specs.declared.line.Plan.{Plan}
 use Rattle.block.specs.declared.line.Name.{Name}
 use Rattle.block.specs.declared.line.Name.the-variants.{StationA, StationB}
 use Rattle.block.specs.declared.line.Direction.{Direction}
 use Rattle.block.specs.declared.line.Direction.the-variants.{TowardsA, TowardsB}
-use Rattle.signals.specs.Aspects.{runs, is-open}
+use Rattle.aspects.specs.Aspects.{runs, is-open}
 use Rattle.signals.specs.SignalSets.{those, off-line, in-area, leaves, arrives, block-lit, exit-lit, runs-somewhere, next-open, is-green, Moved, on-edge, number}
-
--- ---- the numbers of a plan
-pub record Sized (p : Plan) : Type 0 where
-  pub two : 2 ≤ p .sections
-  pub top : p .sections ≤ 16
-  pub low : 1 ≤ p .frontier
-  pub inner : p .frontier < p .sections
-
-pub sized : (p : Plan) → isPlan p ≡ true → Sized p
-sized p e =
-    let h₁ = and-at (leb 2 (p .sections) and leb (p .sections) 16 and leb 1 (p .frontier)) (ltb (p .frontier) (p .sections)) (is-holds (isPlan p) e) in
-    let h₂ = and-at (leb 2 (p .sections) and leb (p .sections) 16) (leb 1 (p .frontier)) (h₁ .0) in
-    let h₃ = and-at (leb 2 (p .sections)) (leb (p .sections) 16) (h₂ .0) in
-    record {
-      two = leb→le 2 (p .sections) (h₃ .0);
-      top = leb→le (p .sections) 16 (h₃ .1);
-      low = leb→le 1 (p .frontier) (h₂ .1);
-      inner = ltb-true (p .frontier) (p .sections) (holds-is (ltb (p .frontier) (p .sections)) (h₁ .1));
-    }
-
-pub record Within (p : Plan) (k : ℕ) : Type 0 where
-  pub least : 1 ≤ k
-  pub most : k ≤ p .sections
-
-pub within : (p : Plan) (k : ℕ) → is-section p k ≡ true → Within p k
-within p k e =
-    let h = and-at (leb 1 k) (leb k (p .sections)) (is-holds (is-section p k) e) in
-    record { least = leb→le 1 k (h .0); most = leb→le k (p .sections) (h .1) }
 
 pub first-small : (p : Plan) (s : Name) → isPlan p ≡ true → first-section p s < 49
 first-small p StationA e = omega arith

@@ -11,10 +11,11 @@ use Rattle.rulebook.specs.Situation.{Kept, station}
 use Rattle.block.specs.declared.line.Plan.{Plan}
 use Rattle.block.specs.declared.line.Direction.{Direction}
 use Rattle.block.specs.declared.line.Direction.the-variants.{TowardsA, TowardsB}
-use Rattle.signals.specs.Aspects.{red, yellow, green, code, is-red, signals-after, is-open, entry-red, out-of-sight, shows-with, shows, aspect}
+use Rattle.aspects.specs.Aspects.{red, yellow, green, code, is-red, signals-after, is-open, entry-red, out-of-sight, shows-with, shows, aspect}
 use Rattle.signals.specs.SignalSets.{those, off-line, next-open, is-last, is-green, number, shown, shown-at}
 use Rattle.signals.specs.declared.lights.Lights.{Lights}
-use Rattle.signals.proofs.LitLaws.{Within, within, green-is-open}
+use Rattle.block.proofs.PlanLaws.{Within, within}
+use Rattle.signals.proofs.LitLaws.{green-is-open}
 
 -- ---- tests
 before-red : (o r : Bool) → is-red (if o then (if r then yellow else green) else red) ≡ not o

@@ -6,7 +6,7 @@ ghost use Rattle.sections.specs.Sections.{only};
 ghost use Rattle.block.specs.Line.{isPlan, first-section};
 ghost use Rattle.block.specs.declared.line.Direction.the-variants.{TowardsA, TowardsB};
 ghost use Rattle.situation.specs.Packed.{station, unpacked};
-ghost use Rattle.signals.specs.Aspects.{is-open, aspect};
+ghost use Rattle.aspects.specs.Aspects.{is-open, aspect};
 ghost use Rattle.signals.specs.SignalSets.{those, off-line, in-area, leaves, arrives, block-lit, exit-lit, runs-somewhere, next-open, is-green, on-edge, Moved, shown, shown-at};
 use block::line::Direction;
 use block::line::Name;

@@ -32,7 +32,7 @@ use folvkin_compare::lent::Placed;
 use folvkin_compare::plain::key::{SLOT, START};
 use folvkin_compare::plain::records::{PLAN, SI, SJ, plan_record};
 use folvkin_compare::plain::situation::{LENGTH, SHORT_LENGTH, TEN_SECONDS};
-use folvkin_compare::plain::{Event, Line, Question, Situation, events, readings};
+use folvkin_compare::plain::{Event, Line, Question, Situation, aspects, events, readings};
 use folvkin_compare::random::Random;
 use folvkin_compare::told;
 
@@ -74,7 +74,7 @@ fn main() -> ExitCode {
     }
     comparison.finish();
     comparison.report(started.elapsed().as_secs_f64());
-    ExitCode::from(u8::from(comparison.differences() != 0))
+    ExitCode::from(u8::from(comparison.differences() != 0 || comparison.met.clear_both_ways != 0))
 }
 
 fn usage() -> ExitCode {
@@ -149,7 +149,8 @@ impl Tally {
 }
 
 /// What is counted of mark and count: what accepted events did to them, line
-/// readings that tell them, and records SJ.
+/// readings that tell them, and records SJ. Then the first rule: sections with
+/// one signal off red, and with both, which is never to be.
 #[derive(Default)]
 struct Met {
     marks_set: u64,
@@ -161,6 +162,8 @@ struct Met {
     written: u64,
     accepted: u64,
     both_zero: u64,
+    clear_one_way: u64,
+    clear_both_ways: u64,
 }
 
 impl Met {
@@ -197,6 +200,14 @@ impl Met {
                 }
             }
             Kind::Reading => self.readings += u64::from(case.read[2][0] == readings::LINE && count > 0),
+            Kind::Aspects => {
+                let sections = usize::from(case.read[0][2]);
+                let (towards_b, towards_a) = room[..2 * sections].split_at(sections);
+                for (&b, &a) in towards_b.iter().zip(towards_a) {
+                    self.clear_one_way += u64::from((b != aspects::RED) != (a != aspects::RED));
+                    self.clear_both_ways += u64::from(b != aspects::RED && a != aspects::RED);
+                }
+            }
             _ => {}
         }
     }
@@ -208,7 +219,9 @@ impl fmt::Display for Met {
         write!(f, "count started {}, ended {}, ", self.counts_started, self.counts_ended)?;
         write!(f, "stopped by an occupation {}, read as line {}; ", self.counts_stopped, self.readings)?;
         write!(f, "SJ accepted {}, written {}, ", self.accepted, self.written)?;
-        write!(f, "refused with both zero {}", self.both_zero)
+        writeln!(f, "refused with both zero {}", self.both_zero)?;
+        write!(f, "sections off red one way {}, ", self.clear_one_way)?;
+        write!(f, "both ways {}", self.clear_both_ways)
     }
 }
 

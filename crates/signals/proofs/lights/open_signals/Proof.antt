@@ -6,7 +6,7 @@ use Rattle.sections.specs.Sets.{either, _minus_}
 use Rattle.block.specs.Line.{first-section, entrance}
 use Rattle.block.specs.declared.line.Name.{Name}
 use Rattle.situation.specs.Packed.{unpacked}
-use Rattle.signals.specs.Aspects.{is-open}
+use Rattle.aspects.specs.Aspects.{is-open}
 use Rattle.signals.specs.SignalSets.{those, off-line}
 use Rattle.signals.proofs.LitLaws.{open-set, nothing-open, off-minus, off-either}
 use borrow.Author.Needs.{needs}

@@ -1,0 +1,4 @@
+pub mod Opposing
+pub mod FirstRule
+pub mod BothExits
+pub mod OffRedSomewhere

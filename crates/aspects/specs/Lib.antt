@@ -1,0 +1,3 @@
+pub mod Aspects
+pub mod Covering
+pub mod Laws
