@@ -3,8 +3,8 @@
  * Link with libfolvkin.a (`rt staticlib folvkin` writes it to
  * target/staticlib; it is x86-64 code for Linux). Plans, situations, events,
  * questions, slots and sheet lines cross it as the bytes of document 01,
- * "Scope and exact rules: integrated line block papers", with requests 01 and
- * 02 of document 02; docs/RECORDS.md has every byte of them.
+ * "Scope and exact rules: integrated line block papers", with requests 01 to
+ * 03 of document 02; docs/RECORDS.md has every byte of them.
  *
  *   plan       the record LB, 4 bytes, as it stands in a question
  *   situation  the record SI, 21 bytes, or SJ, 23 bytes, where a mark is set
@@ -107,7 +107,8 @@ uint64_t folvkin_event(const uint8_t *plan, size_t plan_length, const uint8_t *s
 /* Shows the aspects of all signals: 0 red, 1 yellow, 2 green.
  *   room  takes 2n bytes: the aspects of signals 1..n, then of 129..128+n;
  *         less than 2n is refused by 24
- * Returns 0, or refusal 20, 1, 2 or 24. */
+ * Returns 0, or refusal 20, 1, 2 or 24. Where it returns 0, no section has both
+ * its signals off red. */
 uint8_t folvkin_aspects(const uint8_t *plan, size_t plan_length, const uint8_t *situation,
                         size_t situation_length, uint8_t *room, size_t room_length);
 
