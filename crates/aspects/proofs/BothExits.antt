@@ -27,19 +27,19 @@ exit-opens p x d t =
     let k = first-section p (entrance d) in
     exit-leaves p x d k (subst (λ (v : Bool). T (if v then exit-open p x d k else block-open p x d k)) (eq-eqb k k refl) t)
 
-leaves-by : (t : Station) → T (areaDirection t .out) → T (t under-AFBLE or t is-out)
-leaves-by t = go (t under-AFBLE) (t under-AFBLI)
+out-by : (t : Station) → T (areaDirection t .out) → T (t under-AFBLE or t is-out)
+out-by t = go (t under-AFBLE) (t under-AFBLI)
   where
     go : (afble afbli : Bool) → T ((if afble then out else if afbli then inward else t .orientation) .out) → T (afble or t is-out)
     go true afbli u = tt
     go false true u = absurd u
     go false false u = u
 
-leaving-by : (p : Plan) → T (isPlan p) → (x : Kept) (s : Name) → T (is-off-red p x (exit-signal p s)) → T (station x s under-AFBLE or station x s is-out)
-leaving-by p plan x StationA t = leaves-by (station x StationA) (exit-opens p x TowardsB (covering-open p x TowardsB 1 (omega arith) t))
-leaving-by p plan x StationB t =
+exit-out-by : (p : Plan) → T (isPlan p) → (x : Kept) (s : Name) → T (is-off-red p x (exit-signal p s)) → T (station x s under-AFBLE or station x s is-out)
+exit-out-by p plan x StationA t = out-by (station x StationA) (exit-opens p x TowardsB (covering-open p x TowardsB 1 (omega arith) t))
+exit-out-by p plan x StationB t =
     let n : Sized p = sized p (holds-is (isPlan p) plan) in
-    leaves-by (station x StationB) (exit-opens p x TowardsA (covering-open p x TowardsA (p .sections) (omega arith) t))
+    out-by (station x StationB) (exit-opens p x TowardsA (covering-open p x TowardsA (p .sections) (omega arith) t))
 
 one-under-AFBLE : (a b out-a out-b : Bool) → T (a or out-a) → T (b or out-b) → (out-a and out-b) ≡ false → T (a or b)
 one-under-AFBLE true b out-a out-b t u none = tt
@@ -50,4 +50,4 @@ pub both-exits : BothExits
 both-exits p plan x s events a b =
     let y = after-events p x events in
     one-under-AFBLE (station y StationA under-AFBLE) (station y StationB under-AFBLE) (station y StationA is-out) (station y StationB is-out)
-    (leaving-by p plan y StationA a) (leaving-by p plan y StationB b) (first-rule p plan x s events .orientations)
+    (exit-out-by p plan y StationA a) (exit-out-by p plan y StationB b) (first-rule p plan x s events .orientations)

@@ -1,7 +1,7 @@
 -- Each signal is off red in some sound situation: one station out, with an exit route, the other in, and the line empty. Assumes nothing.
 use Prim.Native.Nat.{ℕ, zero, suc}
 use mathlib.Core.Bool.{Bool, true, false, not}
-use mathlib.Core.Path.{_≡_, sym, subst}
+use mathlib.Core.Path.{sym, subst}
 use lib.Dec.{T}
 use Rattle.words.specs.Words.{_and_, _or_, if_then_else_}
 use Rattle.words.proofs.Tests.{if-case, holds-is}
@@ -41,38 +41,36 @@ module _ (p : Plan) (x : Kept) (d : Direction) where
   open-off-red k on t = subst (λ (v : Bool). T (off-red (if v then code (shows p x d k) else 0))) (sym (holds-is (is-section p k) on)) (open-with (signals-after p d k) k t)
 
 -- ---- a line in use
-leaving : Station
-leaving = (blank becomes out) with-exit normal
+out-with-route : Station
+out-with-route = (blank becomes out) with-exit normal
 
 abbrev in-use : Direction → Kept
-in-use TowardsB = withStations leaving (blank becomes inward) fresh
-in-use TowardsA = withStations (blank becomes inward) leaving fresh
+in-use TowardsB = withStations out-with-route (blank becomes inward) fresh
+in-use TowardsA = withStations (blank becomes inward) out-with-route fresh
 
 in-use-sound : (p : Plan) (d : Direction) → T (sound p (in-use d))
-unfolding leaving
+unfolding out-with-route
 in-use-sound p TowardsB = whole p (in-use TowardsB) (record { stations = tt; sets = parts p fresh (fresh-sound p) .sets; watch = tt })
 in-use-sound p TowardsA = whole p (in-use TowardsA) (record { stations = tt; sets = parts p fresh (fresh-sound p) .sets; watch = tt })
 
-free : (v : Bool) → v ≡ false → T (not v)
-free true e = absurd (subst T e tt)
-free false e = tt
+free : (k : ℕ) → T (not (k belongs-to none))
+free k = subst (λ (v : Bool). T (not v)) (sym (none-has k)) tt
 
-free-twice : (v : Bool) → v ≡ false → T (not v and not v and true)
-free-twice true e = absurd (subst T e tt)
-free-twice false e = tt
+free-and-not-held : (k : ℕ) → T (not (k belongs-to none) and not (k belongs-to none) and true)
+free-and-not-held k = subst (λ (v : Bool). T (not v and not v and true)) (sym (none-has k)) tt
 
 block-in-use : (p : Plan) (d : Direction) (s : Name) (k : ℕ)
     → T (runs s (areaDirection (station (in-use d) s)) d and section-free p (in-use d) d k and not (k belongs-to held (in-use d) d) and not (station (in-use d) s .bslg))
-unfolding leaving
-block-in-use p TowardsB StationA k = free-twice (k belongs-to none) (none-has k)
-block-in-use p TowardsB StationB k = free-twice (k belongs-to none) (none-has k)
-block-in-use p TowardsA StationA k = free-twice (k belongs-to none) (none-has k)
-block-in-use p TowardsA StationB k = free-twice (k belongs-to none) (none-has k)
+unfolding out-with-route
+block-in-use p TowardsB StationA k = free-and-not-held k
+block-in-use p TowardsB StationB k = free-and-not-held k
+block-in-use p TowardsA StationA k = free-and-not-held k
+block-in-use p TowardsA StationB k = free-and-not-held k
 
 exit-in-use : (p : Plan) (d : Direction) (k : ℕ) → T (exit-open p (in-use d) d k)
-unfolding leaving
-exit-in-use p TowardsB k = free (k belongs-to none) (none-has k)
-exit-in-use p TowardsA k = free (k belongs-to none) (none-has k)
+unfolding out-with-route
+exit-in-use p TowardsB k = free k
+exit-in-use p TowardsA k = free k
 
 open-in-use : (p : Plan) (d : Direction) (k : ℕ) → T (is-open p (in-use d) d k)
 open-in-use p d k =

@@ -2,12 +2,12 @@
 -- area has one direction it has not both. Of the situation nothing else is asked. Assumes nothing.
 use Prim.Native.Nat.{ℕ, zero, suc, _+_, _-_, _<_}
 use mathlib.Core.Bool.{Bool, true, false, not}
-use mathlib.Core.Path.{_≡_, refl, sym, ap, subst, _∙_}
+use mathlib.Core.Path.{_≡_, sym, ap, subst, _∙_}
 use native.Mathlib.Omega.{arith}
 use borrow.Author.Tests.{le-leb, lt-leb}
-use lib.Dec.{T, T-not, eqb→eq}
+use lib.Dec.{T, T-not, not-T, eqb→eq}
 use Rattle.words.specs.Words.{_and_, _or_, if_then_else_}
-use Rattle.words.proofs.Tests.{and-at, and-of, holds-is, if-case}
+use Rattle.words.proofs.Tests.{and-at, and-of, holds-is, fails-is, if-case}
 use Rattle.sections.specs.Sections.{_belongs-to_}
 use Rattle.block.specs.Line.{isPlan, is-section, owner, entrance, after, direction-of, section-of, is-signal, is-exit}
 use Rattle.block.specs.declared.line.Plan.{Plan}
@@ -73,9 +73,9 @@ exit-owner p plan TowardsB k t =
     let first : k ≡ 1 = eqb→eq k 1 t in
     ap (λ (v : Bool). if v then StationA else StationB) (le-leb k (p .frontier) (omega arith))
 
-leaving : (d : Direction) (o : Orientation) → T (o .out) → T (runs (entrance d) o d)
-leaving TowardsA o t = t
-leaving TowardsB o t = t
+out-runs : (d : Direction) (o : Orientation) → T (o .out) → T (runs (entrance d) o d)
+out-runs TowardsA o t = t
+out-runs TowardsB o t = t
 
 module _ (p : Plan) (x : Kept) (d : Direction) (k : ℕ) where
   abbrev runs-at : Name → Bool
@@ -97,7 +97,7 @@ module _ (p : Plan) (x : Kept) (d : Direction) (k : ℕ) where
   pub open-runs : T (isPlan p) → T (is-open p x d k) → T (runs-at (owner p k))
   open-runs plan =
       if-case (λ (v : Bool). T v → T (runs-at (owner p k))) (is-exit p d k) (exit-open p x d k) (block-open p x d k)
-      (λ exit t. subst (λ (s : Name). T (runs-at s)) (sym (exit-owner p plan d k exit)) (leaving d (areaDirection (station x (entrance d))) (exit-leaves t)))
+      (λ exit t. subst (λ (s : Name). T (runs-at s)) (sym (exit-owner p plan d k exit)) (out-runs d (areaDirection (station x (entrance d))) (exit-leaves t)))
       (λ block. block-runs)
 
 -- ---- not in both directions
@@ -109,12 +109,8 @@ two-ways StationB o b a = and-of (o .out) (o .inward) a b
 abbrev pub OneWay : Kept → Type 0
 OneWay x = (s : Name) → T (not (areaDirection (station x s) .out and areaDirection (station x s) .inward))
 
-never : (v : Bool) → (T v → ⊥) → v ≡ false
-never true f = absurd (f tt)
-never false f = refl
-
 pub opposing-red : (p : Plan) → T (isPlan p) → (x : Kept) → OneWay x → (k : ℕ) → T (is-section p k) → clear-both-ways p x k ≡ false
-opposing-red p plan x one k on = never (clear-both-ways p x k) both
+opposing-red p plan x one k on = fails-is (clear-both-ways p x k) (not-T (clear-both-ways p x k) both)
   where
     short : k < 128
     short = section-short p plan k on

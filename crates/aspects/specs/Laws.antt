@@ -35,7 +35,7 @@ pub record OffRed (p : Plan) (signal : ℕ) : Type 0 where
 abbrev pub OffRedSomewhere : Type 0
 OffRedSomewhere = (p : Plan) → T (isPlan p) → (d : Direction) (k : ℕ) → T (is-section p k) → OffRed p (covering d k)
 
--- ---- the exit signals of both stations are off red together only where a station is under AFBLE
+-- ---- "Signals 1 and 128+n are the exit signals of A and B": they are off red together only where a station is under AFBLE
 abbrev pub exit-signal : Plan → Name → ℕ
 exit-signal p s = covering (away s) (first-section p s)
 

@@ -185,10 +185,10 @@ module _ (p : Plan) (planned : T (isPlan p)) (plan bytes room : List ℕ) (y : K
   all-shown : FirstRuleShown p y plan bytes room
   all-shown =
       record {
-        shown = ap (λ (w : Whole Given). aspects-told w room) said ∙ told-so;
+        aspects-answer = ap (λ (w : Whole Given). aspects-told w room) said ∙ told-so;
         as-defined = λ k on. (towards-b k on, towards-a k on);
         opposing = λ k on. ap₂ (λ (a b : ℕ). off-red a and off-red b) (towards-b k on) (towards-a k on) ∙ rule .opposing k on;
-        read = answers-0;
+        readings-answer = answers-0;
         orientations = not-both;
       }
 

@@ -119,10 +119,10 @@ oriented-out station = record { kind = 2; argument = station; value = 1 }
 -- what the calls show of records that say the situation y: the aspects call answers 0, and of the 2n bytes that it writes the two of section k are the
 -- aspects of its covering signals, and not both off red; the reading calls answer 0 too, and do not give "out" of both stations
 pub record FirstRuleShown (p : Plan) (y : Kept) (plan situation room : List ℕ) : Type 0 where
-  pub shown : aspects-call plan situation room .told ≡ 0
+  pub aspects-answer : aspects-call plan situation room .told ≡ 0
   pub as-defined : (k : ℕ) → T (is-section p k) → (byte-shown plan situation room (k - 1) ≡ aspect p y (covering TowardsB k)) × (byte-shown plan situation room (p .sections + (k - 1)) ≡ aspect p y (covering TowardsA k))
   pub opposing : (k : ℕ) → T (is-section p k) → (off-red (byte-shown plan situation room (k - 1)) and off-red (byte-shown plan situation room (p .sections + (k - 1)))) ≡ false
-  pub read : (station : ℕ) → station ≤ 1 → reading-call plan situation (oriented-out station) % 256 ≡ 0
+  pub readings-answer : (station : ℕ) → station ≤ 1 → reading-call plan situation (oriented-out station) % 256 ≡ 0
   pub orientations : AllGive plan situation (oriented-out 0 ∷ oriented-out 1 ∷ []) → ⊥
 
 -- from records that `folvkin_situation` accepts, through any such calls

@@ -4,9 +4,10 @@ use mathlib.Core.Bool.{not}
 use mathlib.Core.Path.{_≡_, subst}
 use native.Mathlib.Omega.{arith}
 use borrow.Author.Tests.{lt-leb}
-use lib.Dec.{T, eqb, leb, eqb→eq, leb→le}
-use Rattle.words.proofs.Tests.{and-at, not-equal}
+use lib.Dec.{T, eqb, eqb→eq}
+use Rattle.words.proofs.Tests.{and-at, holds-is, not-equal}
 use Rattle.block.specs.Line.{is-section, first-section, entrance, direction-of, section-of, is-block-signal, is-exit}
+use Rattle.block.proofs.PlanLaws.{within}
 use Rattle.rulebook.specs.Apply.{fits}
 use Rattle.rulebook.specs.Table.{signal, section}
 use Rattle.block.specs.declared.line.Plan.{Plan}
@@ -30,8 +31,8 @@ pub record Placed (q : Plan) (names k : ℕ) (d : Direction) : Type 0 where
 module _ (q : Plan) (short : q .sections < 49) where
   in-line : (k : ℕ) → T (is-section q k) → InLine (q .sections) k
   in-line k t =
-      let h : T (leb 1 k) × T (leb k (q .sections)) = and-at (leb 1 k) (leb k (q .sections)) t in
-      record { low = leb→le 1 k (h .0); high = leb→le k (q .sections) (h .1); short = short }
+      let w = within q k (holds-is (is-section q k) t) in
+      record { low = w .least; high = w .most; short = short }
 
   section-placed : (arg : ℕ) → T (is-section q arg) → InLine (q .sections) (section-of arg)
   section-placed arg t =

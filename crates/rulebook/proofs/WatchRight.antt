@@ -5,14 +5,14 @@ use mathlib.Core.Path.{_≡_, refl, sym, ap, ap₂, subst, _∙_}
 use native.Mathlib.Decide.{ℕ-discrete}
 use native.Mathlib.Omega.{arith}
 use borrow.Author.Tests.{eq-eqb, ne-eqb, lt-leb}
-use lib.Dec.{T, eqb, leb, leb→le}
+use lib.Dec.{T, eqb}
 use Rattle.words.specs.Words.{_and_, if_then_else_}
-use Rattle.words.proofs.Tests.{holds-is, and-at, and-true, or-turned}
+use Rattle.words.proofs.Tests.{holds-is, and-true, or-turned}
 use Rattle.sections.specs.Sections.{none, _belongs-to_, only, _without-section_}
 use Rattle.sections.proofs.SetLaws.{has-without-same, has-without-other, no-sections}
 use Rattle.sections.proofs.SetsOfSets.{in-only}
 use Rattle.block.specs.Line.{isPlan, is-section, section-of}
-use Rattle.block.proofs.PlanLaws.{plan-short}
+use Rattle.block.proofs.PlanLaws.{plan-short, Within, within}
 use Rattle.rulebook.specs.Situation.{Track, Watch, Situation, Kept, seen-from, withWatch, any-exit-route, count-runs, none-occupied, track-free, line-free, _has-exit-route}
 use Rattle.rulebook.specs.Sound.{sound}
 use Rattle.rulebook.specs.Judged.{judged}
@@ -122,11 +122,11 @@ module _ (p : Plan) (plan : T (isPlan p)) where
     abbrev y : Kept
     y = applied p x freeing .next
 
-    in-line : (1 ≤ k) × (k ≤ p .sections)
-    in-line = let h = and-at (leb 1 k) (leb k (p .sections)) (s .is-section) in (leb→le 1 k (h .0), leb→le k (p .sections) (h .1))
+    in-line : Within p k
+    in-line = within p k (holds-is (is-section p k) (s .is-section))
 
     short : k < 49
-    short = omega (arith, in-line .1, plan-short p plan)
+    short = omega (arith, in-line .most, plan-short p plan)
 
     itself : section-of k ≡ k
     itself = rw (lt-leb 128 k (omega (arith, short))) refl

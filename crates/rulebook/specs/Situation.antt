@@ -249,6 +249,7 @@ line-free x = free-with (track-free (x .traffic .track)) x
 abbrev pub one-out-one-in : Situation → Bool
 one-out-one-in x = (x .traffic .own is-out and x .traffic .other is-in) or (x .traffic .own is-in and x .traffic .other is-out)
 
+-- (02, Req 03) "both oriented out"
 abbrev pub both-out : Situation → Bool
 both-out x = x .traffic .own is-out and x .traffic .other is-out
 
