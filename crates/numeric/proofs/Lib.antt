@@ -6,6 +6,7 @@ pub mod Rounding
 pub mod Patterns
 pub mod Cutting
 pub mod Scaling
+pub mod Stepping
 pub mod SameValue
 pub mod Signs
 pub mod NumberLine

@@ -1,33 +1,63 @@
--- `doubled`: a shift where the product stays below 2^44, else 2^44.
-use Rattle.numeric.proofs.Scaling.{doubled-small, doubled-large, doubled-zero, doubled-past}
-use borrow.Author.Needs.{needs}
+-- `doubled`: what is left to double gives what was asked; from 2^44 on it is held.
+use mathlib.Core.Path.{_≡_, refl, _∙_}
+use Prim.Native.Nat.{ℕ, _*_, _^_, _≤_, _<_, min}
+use native.Mathlib.Nat.{le-trans, le-of-eq}
+use native.Mathlib.Omega.{arith}
+use Rattle.numeric.proofs.Stepping.{mul-step, mul-done, mul-grows}
 use Rattle.numeric.proofs.scaled.doubled.Statement.{statement}
 use Rattle.numeric.proofs.scaled.doubled.Tie as tie
 
-sub-if2 : tie.Need-sub-if2
-sub-if2 c = search needs
+abbrev Inv-loop : tie.InvT-loop
+Inv-loop n k m₀ left₀ m left = m * 2 ^ left ≡ n * 2 ^ k
 
-cast-if2 : tie.Need-cast-if2
-cast-if2 c = search needs
+abbrev μ-loop : tie.MeasureT-loop
+μ-loop n k m₀ left₀ m left = left
 
-shl-if2 : tie.Need-shl-if2
-shl-if2 c = search needs
+held : (m left x : ℕ) → m * 2 ^ left ≡ x → 2 ^ 44 ≤ m → 2 ^ 44 ≡ min x (2 ^ 44)
+held m left x e h = at x (le-trans h (le-trans (mul-grows m left) (le-of-eq e)))
+  where
+    at : (x : ℕ) → 2 ^ 44 ≤ x → 2 ^ 44 ≡ min x (2 ^ 44)
+    at x h = omega arith
 
-shl-result : tie.Need-shl-result
-shl-result c = search needs
+below : (m x : ℕ) → m ≡ x → m < 2 ^ 44 → m ≡ min x (2 ^ 44)
+below m x e h = omega arith
 
-returns : tie.Need-returns
-returns c = doubled-small (c .before .before .args .n) (c .before .before .args .k) (c .before .if1 .taken) (c .if2 .taken)
+loop-holds : tie.Need-loop-holds Inv-loop μ-loop
+loop-holds c = refl
 
-returns-2 : tie.Need-returns-2
-returns-2 c = doubled-large (c .before .before .args .n) (c .before .before .args .k) (c .before .if1 .taken) (c .if2 .left)
+returns : tie.Need-returns Inv-loop μ-loop
+returns c =
+    let l = c .before .before .loop in
+    let a = c .before .before .before .args in
+    let large : 2 ^ 44 ≤ l .m = omega (arith, c .if1 .taken) in
+    held (l .m) (l .left) (a .n * 2 ^ a .k) (l .inv) large
 
-returns-3 : tie.Need-returns-3
-returns-3 c = doubled-zero (c .before .before .args .n) (c .before .before .args .k) (c .if3 .taken)
+mul-m : tie.Need-mul-m Inv-loop μ-loop
+mul-m c = omega arith
 
-returns-4 : tie.Need-returns-4
-returns-4 c = doubled-past (c .before .before .args .n) (c .before .before .args .k) (c .before .if1 .left) (c .if3 .left)
+sub-left : tie.Need-sub-left Inv-loop μ-loop
+sub-left c = omega arith
+
+loop-less : tie.Need-loop-less Inv-loop μ-loop
+loop-less c = omega arith
+
+loop-again : tie.Need-loop-again Inv-loop μ-loop
+loop-again c = mul-step (c .before .before .loop .m) (c .before .before .loop .left) (c .before .loop-test .taken) ∙ c .before .before .loop .inv
+
+returns-2 : tie.Need-returns-2 Inv-loop μ-loop
+returns-2 c =
+    let l = c .before .before .loop in
+    let a = c .before .before .before .args in
+    let z : l .left ≡ 0 = omega (arith, c .before .loop-test .left) in
+    below (l .m) (a .n * 2 ^ a .k) (mul-done (l .m) (l .left) z ∙ l .inv) (c .if2 .taken)
+
+returns-3 : tie.Need-returns-3 Inv-loop μ-loop
+returns-3 c =
+    let l = c .before .before .loop in
+    let a = c .before .before .before .args in
+    held (l .m) (l .left) (a .n * 2 ^ a .k) (l .inv) (c .if2 .left)
 
 pub doubled-spec : {M : Type 1} → statement M
 doubled-spec =
-    tie.close (tie.spec sub-if2 cast-if2 shl-if2 shl-result returns returns-2 returns-3 returns-4)
+    tie.close
+    (tie.spec Inv-loop μ-loop loop-holds returns mul-m sub-left loop-less loop-again returns-2 returns-3)
