@@ -46,7 +46,7 @@ up-both n j k =
     ap (λ (z : ℕ). z + (if eqb (n % 2 ^ j) 0 then 0 else 1)) (down-both n j k)
     ∙ ap (λ (b : Bool). cutDown (n * 2 ^ k) (2 ^ j * 2 ^ k) + (if b then 0 else 1)) (sym (ap (λ (z : ℕ). eqb z 0) (mod-both n j k) ∙ zero-alike (n % 2 ^ j) (2 ^ k) (pow-pos k)))
 
-pub split : (w k : ℕ) → k ≤ w → 2 ^ (w - k) * 2 ^ k ≡ 2 ^ w
+split : (w k : ℕ) → k ≤ w → 2 ^ (w - k) * 2 ^ k ≡ 2 ^ w
 split w k h = sym (pow-add 2 (w - k) k) ∙ ap (λ (z : ℕ). 2 ^ z) (sub-add-cancel h)
 
 pub down-scale : (n w k : ℕ) → k ≤ w → cutDown n (2 ^ (w - k)) ≡ cutDown (n * 2 ^ k) (2 ^ w)
@@ -59,7 +59,7 @@ up-scale n w k h = up-both n (w - k) k ∙ ap (λ (z : ℕ). cutUp (n * 2 ^ k) z
 whole-up : (x c : ℕ) → 0 < c → min x (2 ^ 44) ≡ cutUp (x * c) c
 whole-up x c C = ap (λ (z : ℕ). min z (2 ^ 44)) (sym (mul-div-cancel x C)) ∙ sym (up-at (x * c) c (mul-mod-left x c))
 
-pub more : (n w k : ℕ) → w ≤ k → n * 2 ^ (k - w) * 2 ^ w ≡ n * 2 ^ k
+more : (n w k : ℕ) → w ≤ k → n * 2 ^ (k - w) * 2 ^ w ≡ n * 2 ^ k
 more n w k h = mul-assoc n (2 ^ (k - w)) (2 ^ w) ∙ ap (λ (z : ℕ). n * z) (split k w h)
 
 pub down-whole : (n w k : ℕ) → w ≤ k → min (n * 2 ^ (k - w)) (2 ^ 44) ≡ cutDown (n * 2 ^ k) (2 ^ w)

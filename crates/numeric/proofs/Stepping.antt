@@ -1,13 +1,13 @@
 -- Doubling and halving step by step: what is left to do gives what was asked. Assumes nothing.
 use mathlib.Core.Path.{_≡_, sym, ap, _∙_, subst}
 use mathlib.Core.Logic.{inl, inr}
-use Prim.Native.Nat.{ℕ, suc, _+_, _-_, _*_, _/_, _%_, _^_, _≤_, _<_}
-use native.Mathlib.Nat.{mul-comm, mul-assoc, mul-one, le-mul-of-pos-right, pow-succ', div-add-mod', div-one, zero-div, div-div-eq-div-mul, add-mul-div-right, mul-add-div-right, add-div-right, div-eq-of-lt, div-eq-of-lt-le, mul-div-cancel, mul-div-mul-right, mul-le-mul, mod-lt, eq-zero-or-pos, ne-of-gt, le-trans, le-of-eq}
+use Prim.Native.Nat.{ℕ, suc, _+_, _-_, _*_, _/_, _%_, _^_, _≤_, _<_, min}
+use native.Mathlib.Nat.{div-one, lt-of-le-of-lt, div-le-self, mul-pos, mul-comm, mul-assoc, mul-one, le-mul-of-pos-right, pow-succ', div-add-mod', div-div-eq-div-mul, add-mul-div-right, mul-add-div-right, add-div-right, div-eq-of-lt, div-eq-of-lt-le, mul-div-mul-right, mul-le-mul, mod-lt, eq-zero-or-pos, ne-of-gt, le-trans, le-of-eq}
 use native.Mathlib.Omega.{arith}
-use lib.Pow.{pow-pos, pow-mono}
+use lib.Pow.{pow-pos, pow-mono, pow-add}
 use Rattle.numeric.specs.Inner.{cutDown, cutUp}
 use Rattle.numeric.proofs.Comparing.{sub-mul}
-use Rattle.numeric.proofs.Scaling.{down-small, up-exact, up-inexact, split, more}
+use Rattle.numeric.proofs.Scaling.{down-small, up-exact, up-inexact}
 
 -- ---- n / c, cut up
 abbrev pub up : ℕ → ℕ → ℕ
@@ -27,13 +27,13 @@ up-up n a b P Q =
     rest ab less e h = omega arith
 
 -- both sides of a fraction times d
-pub up-times : (n c d : ℕ) → 0 < c → 0 < d → up (n * d) (c * d) ≡ up n c
+up-times : (n c d : ℕ) → 0 < c → 0 < d → up (n * d) (c * d) ≡ up n c
 up-times n c d C D =
     ap (λ (z : ℕ). up (n * d) z) (mul-comm c d)
     ∙ sym (up-up (n * d) d c D C)
     ∙ ap (λ (z : ℕ). up z c) (up-multiple n d D)
 
-pub up-cut : (n c : ℕ) → 0 < c → n ≤ 2 ^ 44 → up n c ≡ cutUp n c
+up-cut : (n c : ℕ) → 0 < c → n ≤ 2 ^ 44 → up n c ≡ cutUp n c
 up-cut n c C h =
     elim (eq-zero-or-pos (n % c)) [
       | inl z ↦ whole z ∙ up-exact n c h z
@@ -56,18 +56,15 @@ up-cut n c C h =
         ∙ mul-add-div-right C (n / c) (n % c - 1 + c)
         ∙ ap (λ (x : ℕ). n / c + x) (add-div-right (n % c - 1) C ∙ ap (λ (x : ℕ). x + 1) (div-eq-of-lt {n = n % c - 1} {m = c} (less (n % c) (mod-lt n C))))
 
--- 0 and 1 stay what they are
-pub up-still : (n c : ℕ) → 0 < c → n ≤ 1 → up n c ≡ n
-up-still n c C h =
+-- of what is not above c only whether it is 0 is left
+up-small : (n c : ℕ) → 0 < c → n ≤ c → up n c ≡ min n 1
+up-small n c C h =
     elim (eq-zero-or-pos n) [
-      | inl z ↦ subst (λ (x : ℕ). up x c ≡ x) (sym z) (div-eq-of-lt {n = 0 + (c - 1)} {m = c} (omega arith))
-      | inr p ↦ subst (λ (x : ℕ). up x c ≡ x) (one n h p) (div-eq-of-lt-le {k = 1} c {m = 1 + (c - 1)} (omega arith) (omega arith))
+      | inl z ↦ subst (λ (x : ℕ). up x c ≡ min x 1) (sym z) (div-eq-of-lt {n = 0 + (c - 1)} {m = c} (omega arith))
+      | inr p ↦ div-eq-of-lt-le {k = 1} c {m = n + (c - 1)} (omega arith) (omega arith) ∙ (omega arith)
     ]
-  where
-    one : (n : ℕ) → n ≤ 1 → 0 < n → 1 ≡ n
-    one n h p = omega arith
 
--- ---- one step of those that are left
+-- ---- one step
 power : (left : ℕ) → 0 < left → 2 ^ left ≡ 2 * 2 ^ (left - 1)
 power left h = ap (λ (z : ℕ). 2 ^ z) (one-more left h) ∙ pow-succ' 2 (left - 1)
   where
@@ -77,11 +74,11 @@ power left h = ap (λ (z : ℕ). 2 ^ z) (one-more left h) ∙ pow-succ' 2 (left 
 pub mul-step : (m left : ℕ) → 0 < left → m * 2 * 2 ^ (left - 1) ≡ m * 2 ^ left
 mul-step m left h = mul-assoc m 2 (2 ^ (left - 1)) ∙ ap (λ (z : ℕ). m * z) (sym (power left h))
 
-pub div-step : (low left : ℕ) → 0 < left → low / 2 / 2 ^ (left - 1) ≡ low / 2 ^ left
-div-step low left h = div-div-eq-div-mul low 2 (2 ^ (left - 1)) ∙ ap (λ (z : ℕ). low / z) (sym (power left h))
+pub div-step : (low at : ℕ) → 0 < at → low / 2 / 2 ^ (at - 1) ≡ low / 2 ^ at
+div-step low at h = div-div-eq-div-mul low 2 (2 ^ (at - 1)) ∙ ap (λ (z : ℕ). low / z) (sym (power at h))
 
-pub up-step : (high left : ℕ) → 0 < left → up ((high + 1) / 2) (2 ^ (left - 1)) ≡ up high (2 ^ left)
-up-step high left h = up-up high 2 (2 ^ (left - 1)) (omega arith) (pow-pos (left - 1)) ∙ ap (λ (z : ℕ). up high z) (sym (power left h))
+pub up-step : (high at : ℕ) → 0 < at → up ((high + 1) / 2) (2 ^ (at - 1)) ≡ up high (2 ^ at)
+up-step high at h = up-up high 2 (2 ^ (at - 1)) (omega arith) (pow-pos (at - 1)) ∙ ap (λ (z : ℕ). up high z) (sym (power at h))
 
 -- ---- none is left
 pub mul-done : (m left : ℕ) → left ≡ 0 → m ≡ m * 2 ^ left
@@ -93,48 +90,44 @@ div-done low left e = sym (ap (λ (z : ℕ). low / 2 ^ z) e ∙ div-one low)
 pub up-done : (high left : ℕ) → left ≡ 0 → high ≡ up high (2 ^ left)
 up-done high left e = sym (ap (λ (z : ℕ). up high (2 ^ z)) e ∙ div-one (high + 0) ∙ (omega arith))
 
--- ---- nothing changes by those that are left
-pub div-zero : (low left : ℕ) → low ≡ 0 → low ≡ low / 2 ^ left
-div-zero low left e = e ∙ sym (ap (λ (z : ℕ). z / 2 ^ left) e ∙ zero-div (2 ^ left))
+-- ---- of what is below the lower side nothing is left, or a part of it
+pub low-below : (low left lower : ℕ) → low < lower → low / lower ≡ low / 2 ^ left / lower
+low-below low left lower h = div-eq-of-lt h ∙ sym (div-eq-of-lt (lt-of-le-of-lt (div-le-self low (2 ^ left)) h))
+
+pub high-below : (high left lower : ℕ) → 0 < lower → high ≤ lower → up high lower ≡ up (up high (2 ^ left)) lower
+high-below high left lower C h =
+    up-small high lower C h
+    ∙ sym (up-small high (2 ^ left * lower) (mul-pos (pow-pos left) C) (le-trans h (le-trans (le-mul-of-pos-right lower (pow-pos left)) (le-of-eq (mul-comm lower (2 ^ left))))))
+    ∙ sym (up-up high (2 ^ left) lower (pow-pos left) C)
 
 pub mul-grows : (m left : ℕ) → m ≤ m * 2 ^ left
 mul-grows m left = le-mul-of-pos-right m (pow-pos left)
 
--- ---- few doublings
-pub few-fit : (n k : ℕ) → n ≤ 2 ^ 44 → k ≤ 16 → n * 2 ^ k ≤ 2 ^ 60
-few-fit n k h g = mul-le-mul h (pow-mono g)
+-- one doubling more of those that are left
+pub mul-next : (m left x : ℕ) → 0 < left → m * 2 ^ left ≡ x → m * 2 ≤ x
+mul-next m left x h e = le-trans (mul-grows (m * 2) (left - 1)) (le-of-eq (mul-step m left h ∙ e))
 
-pub one-fits : (m left x : ℕ) → 0 < left → m * 2 ^ left ≡ x → x ≤ 2 ^ 60 → m * 2 ≤ 2 ^ 60
-one-fits m left x h e g = le-trans (mul-grows (m * 2) (left - 1)) (le-trans (le-of-eq (mul-step m left h ∙ e)) g)
+-- ---- both sides of n / 2 ^ k doubled while the lower one is less than 2 ^ to, divided, and halved while it is more
+pub doubled-fits : (n k to : ℕ) → n ≤ 2 ^ 44 → to ≤ k + 8 → n * 2 ^ (to - k) ≤ 2 ^ 52
+doubled-fits n k to h g = mul-le-mul h (pow-mono (few g))
+  where
+    few : to ≤ k + 8 → to - k ≤ 8
+    few g = omega arith
 
--- ---- both sides of n / 2 ^ k, until the lower one is 2 ^ to
-pub doubled-low : (n k to : ℕ) → k ≤ to → n * 2 ^ (to - k) ≡ n * 2 ^ to / 2 ^ k
-doubled-low n k to h = sym (mul-div-cancel (n * 2 ^ (to - k)) (pow-pos k)) ∙ ap (λ (z : ℕ). z / 2 ^ k) (more n k to h)
+sides : (k to : ℕ) → 2 ^ (k - to) * 2 ^ to ≡ 2 ^ k * 2 ^ (to - k)
+sides k to = sym (pow-add 2 (k - to) to) ∙ ap (λ (z : ℕ). 2 ^ z) (greater k to) ∙ pow-add 2 k (to - k)
+  where
+    greater : (k to : ℕ) → k - to + to ≡ k + (to - k)
+    greater k to = omega arith
 
-pub doubled-high : (n k to : ℕ) → k ≤ to → n * 2 ^ (to - k) ≡ up (n * 2 ^ to) (2 ^ k)
-doubled-high n k to h = sym (up-multiple (n * 2 ^ (to - k)) (2 ^ k) (pow-pos k)) ∙ ap (λ (z : ℕ). up z (2 ^ k)) (more n k to h)
-
-pub halved-low : (n k to : ℕ) → to ≤ k → n ≤ 2 ^ 44 → cutDown n (2 ^ (k - to)) ≡ n * 2 ^ to / 2 ^ k
-halved-low n k to h g =
-    sym (down-small n (2 ^ (k - to)) g)
-    ∙ sym (mul-div-mul-right n (2 ^ (k - to)) (pow-pos to))
-    ∙ ap (λ (z : ℕ). n * 2 ^ to / z) (split k to h)
-
-pub halved-high : (n k to : ℕ) → to ≤ k → n ≤ 2 ^ 44 → cutUp n (2 ^ (k - to)) ≡ up (n * 2 ^ to) (2 ^ k)
-halved-high n k to h g =
-    sym (up-cut n (2 ^ (k - to)) (pow-pos (k - to)) g)
-    ∙ sym (up-times n (2 ^ (k - to)) (2 ^ to) (pow-pos (k - to)) (pow-pos to))
-    ∙ ap (λ (z : ℕ). up (n * 2 ^ to) z) (split k to h)
-
--- the upper side over the lower
-pub low-over : (n k to : ℕ) → n ≤ 2 ^ 44 → n * 2 ^ to / 2 ^ k / 2 ^ to ≡ cutDown n (2 ^ k)
-low-over n k to h =
-    div-div-eq-div-mul (n * 2 ^ to) (2 ^ k) (2 ^ to)
-    ∙ mul-div-mul-right n (2 ^ k) (pow-pos to)
+pub stepped-low : (n k to : ℕ) → n ≤ 2 ^ 44 → n * 2 ^ (to - k) / (2 ^ (k - to) * 2 ^ to) ≡ cutDown n (2 ^ k)
+stepped-low n k to h =
+    ap (λ (z : ℕ). n * 2 ^ (to - k) / z) (sides k to)
+    ∙ mul-div-mul-right n (2 ^ k) (pow-pos (to - k))
     ∙ down-small n (2 ^ k) h
 
-pub high-over : (n k to : ℕ) → n ≤ 2 ^ 44 → up (up (n * 2 ^ to) (2 ^ k)) (2 ^ to) ≡ cutUp n (2 ^ k)
-high-over n k to h =
-    up-up (n * 2 ^ to) (2 ^ k) (2 ^ to) (pow-pos k) (pow-pos to)
-    ∙ up-times n (2 ^ k) (2 ^ to) (pow-pos k) (pow-pos to)
+pub stepped-high : (n k to : ℕ) → n ≤ 2 ^ 44 → up (n * 2 ^ (to - k)) (2 ^ (k - to) * 2 ^ to) ≡ cutUp n (2 ^ k)
+stepped-high n k to h =
+    ap (λ (z : ℕ). up (n * 2 ^ (to - k)) z) (sides k to)
+    ∙ up-times n (2 ^ k) (2 ^ (to - k)) (pow-pos k) (pow-pos (to - k))
     ∙ up-cut n (2 ^ k) (pow-pos k) h

@@ -10,7 +10,7 @@ pub struct Cut {
 }
 
 // n * 2^power / 2^149, cut. From 2^44 on it is held there.
-// The lower side becomes 2^8, 2^16 or 2^24, so that an answer between 1/4 and 2^23 is at most seven steps away.
+// The lower side becomes 2^8, 2^16 or 2^24, from which a number between 1/4 and 2^23 is at most seven steps away.
 pub(crate) fn scaled(n: u64, power: u32) -> Cut
     requires { ⌜ n ≤ 2 ^ 44 ⌝ }
     ensures { λ r. ⌜ (r .low ≡ cutDown (n * 2 ^ power) (2 ^ 149)) × (r .high ≡ cutUp (n * 2 ^ power) (2 ^ 149)) ⌝ }
@@ -28,73 +28,62 @@ pub(crate) fn scaled(n: u64, power: u32) -> Cut
     Cut { low: m, high: m }
 }
 
-// n / 2^k, cut, by way of the lower side 2^to.
+// n / 2^k, cut: both sides are doubled while the lower one is less than 2^to, or halved while it is more.
 fn stepped(n: u64, k: u32, to: u32, lower: u64) -> Cut
-    requires { ⌜ (n ≤ 2 ^ 44) × (to ≤ k + 16) × (lower ≡ 2 ^ to) × (1 ≤ lower) × (lower ≤ 2 ^ 24) ⌝ }
+    requires { ⌜ (n ≤ 2 ^ 44) × (to ≤ k + 8) × (lower ≡ 2 ^ to) × (2 ≤ lower) × (lower ≤ 2 ^ 24) ⌝ }
     ensures { λ r. ⌜ (r .low ≡ cutDown n (2 ^ k)) × (r .high ≡ cutUp n (2 ^ k)) ⌝ }
 {
-    let upper = upper_side(n, k, to);
-    Cut {
-        low: upper.low / lower,
-        high: (upper.high + (lower - 1)) / lower,
-    }
+    let upper = doubled_up(n, k, to);
+    halved_down(upper, k, to, lower)
 }
 
-// The upper side of n / 2^k, cut, once both sides are doubled, or both are halved, until the lower one is 2^to.
-fn upper_side(n: u64, k: u32, to: u32) -> Cut
-    requires { ⌜ (n ≤ 2 ^ 44) × (to ≤ k + 16) ⌝ }
-    ensures { λ r. ⌜ (r .low ≡ n * 2 ^ to / 2 ^ k) × (r .high ≡ (n * 2 ^ to + (2 ^ k - 1)) / 2 ^ k) × (r .high ≤ 2 ^ 60) ⌝ }
-{
-    if k < to {
-        let m = doubled_few(n, to - k);
-        return Cut { low: m, high: m };
-    }
-    halved(n, k - to)
-}
-
-// n / 2^k, cut: low and high are halved k times, low cut down and high cut up.
-// Stops early once low is 0: high is then 0 or 1, and neither changes however often it is halved.
-fn halved(n: u64, k: u32) -> Cut
-    requires { ⌜ n ≤ 2 ^ 44 ⌝ }
-    ensures { λ r. ⌜ (r .low ≡ cutDown n (2 ^ k)) × (r .high ≡ cutUp n (2 ^ k)) ⌝ }
-{
-    let mut low = n;
-    let mut high = n;
-    let mut left = k;
-    while 0 < left {
-        if low == 0 {
-            return Cut { low, high };
-        }
-        low = low / 2;
-        high = (high + 1) / 2;
-        left = left - 1;
-    }
-    Cut { low, high }
-}
-
-// n * 2^k, by so few doublings that no bound is met.
-fn doubled_few(n: u64, k: u32) -> u64
-    requires { ⌜ (n ≤ 2 ^ 44) × (k ≤ 16) ⌝ }
-    ensures { λ r. ⌜ r ≡ n * 2 ^ k ⌝ }
+// The upper side of n / 2^k, both sides doubled until the lower one is 2^to. Where it is that or more, n.
+fn doubled_up(n: u64, k: u32, to: u32) -> u64
+    requires { ⌜ (n ≤ 2 ^ 44) × (to ≤ k + 8) ⌝ }
+    ensures { λ r. ⌜ (r ≡ n * 2 ^ (to - k)) × (r ≤ 2 ^ 52) ⌝ }
 {
     let mut upper = n;
-    let mut left = k;
-    while 0 < left {
+    let mut at = k;
+    while at < to {
         upper = upper * 2;
-        left = left - 1;
+        at = at + 1;
     }
     upper
 }
 
+// The upper side over the lower, both halved until the lower one, 2^k, is 2^to: low is cut down, high is cut up.
+// Stops early once low is less than the lower side, and high not more: they give 0, and 0 or 1, however often they are halved.
+fn halved_down(upper: u64, k: u32, to: u32, lower: u64) -> Cut
+    requires { ⌜ (upper ≤ 2 ^ 52) × (2 ≤ lower) × (lower ≤ 2 ^ 24) ⌝ }
+    ensures { λ r. ⌜ (r .low ≡ upper / (2 ^ (k - to) * lower))
+        × (r .high ≡ (upper + (2 ^ (k - to) * lower - 1)) / (2 ^ (k - to) * lower)) ⌝ }
+{
+    let mut low = upper;
+    let mut high = upper;
+    let mut at = k;
+    while to < at {
+        if low < lower {
+            break;
+        }
+        low = low / 2;
+        high = (high + 1) / 2;
+        at = at - 1;
+    }
+    Cut {
+        low: low / lower,
+        high: (high + (lower - 1)) / lower,
+    }
+}
+
 // n * 2^k, held at 2^44: n is doubled k times.
-// Stops early once 2^44 is reached: doubled further, it is held there all the same.
+// Stops early once the next doubling reaches 2^44: from then on it is held there.
 fn doubled(n: u64, k: u32) -> u64
     ensures { λ r. ⌜ r ≡ min (n * 2 ^ k) (2 ^ 44) ⌝ }
 {
     let mut m = n;
     let mut left = k;
     while 0 < left {
-        if 1 << 44 <= m {
+        if 1 << 43 <= m {
             return 1 << 44;
         }
         m = m * 2;

@@ -3,7 +3,7 @@ use mathlib.Core.Path.{_≡_, refl, _∙_}
 use Prim.Native.Nat.{ℕ, _*_, _^_, _≤_, _<_, min}
 use native.Mathlib.Nat.{le-trans, le-of-eq}
 use native.Mathlib.Omega.{arith}
-use Rattle.numeric.proofs.Stepping.{mul-step, mul-done, mul-grows}
+use Rattle.numeric.proofs.Stepping.{mul-step, mul-done, mul-grows, mul-next}
 use Rattle.numeric.proofs.scaled.doubled.Statement.{statement}
 use Rattle.numeric.proofs.scaled.doubled.Tie as tie
 
@@ -13,11 +13,8 @@ Inv-loop n k m₀ left₀ m left = m * 2 ^ left ≡ n * 2 ^ k
 abbrev μ-loop : tie.MeasureT-loop
 μ-loop n k m₀ left₀ m left = left
 
-held : (m left x : ℕ) → m * 2 ^ left ≡ x → 2 ^ 44 ≤ m → 2 ^ 44 ≡ min x (2 ^ 44)
-held m left x e h = at x (le-trans h (le-trans (mul-grows m left) (le-of-eq e)))
-  where
-    at : (x : ℕ) → 2 ^ 44 ≤ x → 2 ^ 44 ≡ min x (2 ^ 44)
-    at x h = omega arith
+held : (x : ℕ) → 2 ^ 44 ≤ x → 2 ^ 44 ≡ min x (2 ^ 44)
+held x h = omega arith
 
 below : (m x : ℕ) → m ≡ x → m < 2 ^ 44 → m ≡ min x (2 ^ 44)
 below m x e h = omega arith
@@ -29,8 +26,8 @@ returns : tie.Need-returns Inv-loop μ-loop
 returns c =
     let l = c .before .before .loop in
     let a = c .before .before .before .args in
-    let large : 2 ^ 44 ≤ l .m = omega (arith, c .if1 .taken) in
-    held (l .m) (l .left) (a .n * 2 ^ a .k) (l .inv) large
+    let next = mul-next (l .m) (l .left) (a .n * 2 ^ a .k) (c .before .loop-test .taken) (l .inv) in
+    held (a .n * 2 ^ a .k) (omega (arith, c .if1 .taken, next))
 
 mul-m : tie.Need-mul-m Inv-loop μ-loop
 mul-m c = omega arith
@@ -55,7 +52,8 @@ returns-3 : tie.Need-returns-3 Inv-loop μ-loop
 returns-3 c =
     let l = c .before .before .loop in
     let a = c .before .before .before .args in
-    held (l .m) (l .left) (a .n * 2 ^ a .k) (l .inv) (c .if2 .left)
+    let grown = mul-grows (l .m) (l .left) in
+    held (a .n * 2 ^ a .k) (le-trans (c .if2 .left) (le-trans grown (le-of-eq (l .inv))))
 
 pub doubled-spec : {M : Type 1} → statement M
 doubled-spec =
