@@ -341,7 +341,23 @@ impl Bench {
             let count = situations.len() * Given::TIMES;
             self.line(&format!("{n} sections"), count, &mut AllAspects(&situations));
         }
+        println!();
+        self.head("Number marked by its size", "calls");
+        let usual = -2..24;
+        for power in [-127, -60, -30, -20, -15, -10, -6, -4].into_iter().chain(usual).chain([30, 60, 127]) {
+            let marks: Vec<_> =
+                std::iter::repeat_with(|| of_size(&mut r, power)).filter(is_marked).take(1024).collect();
+            self.line(&format!("from 2^{power}"), marks.len() * 4, &mut Marks(&marks));
+        }
     }
+}
+
+/// A number typed in the unit asked, at least 2^power and less than twice
+/// that; of the least power, below 2^-126.
+fn of_size(r: &mut Random, power: i32) -> [u32; 6] {
+    let [kind, amount, speed, tolerance, ..] = generate::typed(r);
+    let pattern = ((power + 127) as u32) << 23 | r.word() as u32 & 0x7f_ffff;
+    [kind, amount, speed, tolerance, kind, pattern]
 }
 
 /// Whether a typed number is marked, not refused.

@@ -1,12 +1,12 @@
 //! Runs generated cases through the plain implementation and the library:
 //!
-//!     compare [--seed S] [--count N] [--small-line] [--trace]
+//!     compare [--seed S] [--count N] [--numbers | --small-line] [--trace]
 //!
-//! The cases depend on seed and count alone. `--small-line` runs every
-//! situation in range of the plan 2, 1 instead, each sound one with every mark
-//! and count, and every event, aspect and reading on all that are sound.
-//! `--trace` prints every case before its call, so that the last line tells
-//! which one ended the program.
+//! The cases depend on seed and count alone. `--numbers` runs typed numbers
+//! alone. `--small-line` runs every situation in range of the plan 2, 1
+//! instead, each sound one with every mark and count, and every event, aspect
+//! and reading on all that are sound. `--trace` prints every case before its
+//! call, so that the last line tells which one ended the program.
 //!
 //! What a later case takes from an earlier one (a situation that an event led
 //! to, a slot to go on after) is what both gave, or the earlier case counts as
@@ -45,6 +45,7 @@ const LARGEST_ROOM: usize = 300_000 * SLOT;
 fn main() -> ExitCode {
     let mut seed = 1;
     let mut count = 10_000_000;
+    let mut numbers = false;
     let mut small_line = false;
     let mut trace = false;
     let mut words = std::env::args().skip(1);
@@ -59,6 +60,7 @@ fn main() -> ExitCode {
                 Some(given) => count = given,
                 None => return usage(),
             },
+            "--numbers" => numbers = true,
             "--small-line" => small_line = true,
             "--trace" => trace = true,
             _ => return usage(),
@@ -69,6 +71,8 @@ fn main() -> ExitCode {
     if small_line {
         comparison.limit = u64::MAX;
         comparison.small_line();
+    } else if numbers {
+        comparison.numbers();
     } else {
         comparison.generated();
     }
@@ -78,7 +82,7 @@ fn main() -> ExitCode {
 }
 
 fn usage() -> ExitCode {
-    eprintln!("usage: compare [--seed S] [--count N] [--small-line] [--trace]");
+    eprintln!("usage: compare [--seed S] [--count N] [--numbers | --small-line] [--trace]");
     ExitCode::from(2)
 }
 
@@ -731,6 +735,24 @@ impl Comparison {
         for place in 1..=question.events().len() {
             let slot = generate::slot_to(&mut self.random, &question, place);
             self.check(Case::run(&bytes, &slot));
+        }
+    }
+
+    /// Floats of every exponent and sign, on many questions; then numbers as
+    /// they come among other cases.
+    fn numbers(&mut self) {
+        for high in 0..512 {
+            for low in [0, 1, 1 << 22, 0x7f_fffe, 0x7f_ffff] {
+                for _ in 0..64 {
+                    let [kind, amount, speed, tolerance, unit, _] = generate::typed(&mut self.random);
+                    let room = self.room(13);
+                    let pattern = high << 23 | low;
+                    self.check(Case::mark(kind as u8, amount, speed, tolerance, unit as u8, pattern, &room));
+                }
+            }
+        }
+        while self.cases < self.limit {
+            self.number();
         }
     }
 
