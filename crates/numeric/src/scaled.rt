@@ -1,4 +1,5 @@
-// Scaling by powers of two as it is shown on a board: both sides of a fraction are doubled, or both are halved.
+// Scaling by powers of two as it is shown on a board: both sides of a fraction n / 2^k are doubled, or both are halved.
+// A number n * 2^k has no lower side, and is doubled itself.
 ghost use mathlib.Core.Path.{_≡_};
 ghost use Prim.Native.Nat.{_+_, _-_, _*_, _/_, _^_, _≤_, min};
 ghost use Rattle.numeric.specs.Inner.{cutDown, cutUp};
@@ -10,7 +11,7 @@ pub struct Cut {
 }
 
 // n * 2^power / 2^149, cut. From 2^44 on it is held there.
-// The lower side becomes 2^8, 2^16 or 2^24, from which a number between 1/4 and 2^23 is at most seven steps away.
+// The lower side becomes 2^8, 2^16 or 2^24: seven steps at most where power is 118 to 148, a number typed from 1/256 up to 2^23.
 pub(crate) fn scaled(n: u64, power: u32) -> Cut
     requires { ⌜ n ≤ 2 ^ 44 ⌝ }
     ensures { λ r. ⌜ (r .low ≡ cutDown (n * 2 ^ power) (2 ^ 149)) × (r .high ≡ cutUp (n * 2 ^ power) (2 ^ 149)) ⌝ }
@@ -28,16 +29,16 @@ pub(crate) fn scaled(n: u64, power: u32) -> Cut
     Cut { low: m, high: m }
 }
 
-// n / 2^k, cut: both sides are doubled while the lower one is less than 2^to, or halved while it is more.
+// n / 2^k, cut: both sides are doubled while the lower one is less than 2^to, or halved while it is more, and then divided.
 fn stepped(n: u64, k: u32, to: u32, lower: u64) -> Cut
-    requires { ⌜ (n ≤ 2 ^ 44) × (to ≤ k + 8) × (lower ≡ 2 ^ to) × (2 ≤ lower) × (lower ≤ 2 ^ 24) ⌝ }
+    requires { ⌜ (n ≤ 2 ^ 44) × (to ≤ k + 8) × (lower ≡ 2 ^ to) × (1 ≤ lower) × (lower ≤ 2 ^ 24) ⌝ }
     ensures { λ r. ⌜ (r .low ≡ cutDown n (2 ^ k)) × (r .high ≡ cutUp n (2 ^ k)) ⌝ }
 {
     let upper = doubled_up(n, k, to);
     halved_down(upper, k, to, lower)
 }
 
-// The upper side of n / 2^k, both sides doubled until the lower one is 2^to. Where it is that or more, n.
+// The upper side of n / 2^k, both sides doubled until the lower one, 2^at, is 2^to. Where it is that or more, n.
 fn doubled_up(n: u64, k: u32, to: u32) -> u64
     requires { ⌜ (n ≤ 2 ^ 44) × (to ≤ k + 8) ⌝ }
     ensures { λ r. ⌜ (r ≡ n * 2 ^ (to - k)) × (r ≤ 2 ^ 52) ⌝ }
@@ -51,10 +52,10 @@ fn doubled_up(n: u64, k: u32, to: u32) -> u64
     upper
 }
 
-// The upper side over the lower, both halved until the lower one, 2^k, is 2^to: low is cut down, high is cut up.
-// Stops early once low is less than the lower side, and high not more: they give 0, and 0 or 1, however often they are halved.
+// upper / (2^(k-to) * lower), cut: both sides are halved until at is to, low cut down and high cut up, and each is divided by lower.
+// Stops early once low < lower. high is one more at most, so not above lower: low gives 0, and high 1, or 0 if it is 0, however often they are halved.
 fn halved_down(upper: u64, k: u32, to: u32, lower: u64) -> Cut
-    requires { ⌜ (upper ≤ 2 ^ 52) × (2 ≤ lower) × (lower ≤ 2 ^ 24) ⌝ }
+    requires { ⌜ (upper ≤ 2 ^ 52) × (1 ≤ lower) × (lower ≤ 2 ^ 24) ⌝ }
     ensures { λ r. ⌜ (r .low ≡ upper / (2 ^ (k - to) * lower))
         × (r .high ≡ (upper + (2 ^ (k - to) * lower - 1)) / (2 ^ (k - to) * lower)) ⌝ }
 {
@@ -75,7 +76,7 @@ fn halved_down(upper: u64, k: u32, to: u32, lower: u64) -> Cut
     }
 }
 
-// n * 2^k, held at 2^44: n is doubled k times.
+// n * 2^k, held at 2^44: n is doubled k times, or less often.
 // Stops early once the next doubling reaches 2^44: from then on it is held there.
 fn doubled(n: u64, k: u32) -> u64
     ensures { λ r. ⌜ r ≡ min (n * 2 ^ k) (2 ^ 44) ⌝ }
