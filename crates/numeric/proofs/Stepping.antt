@@ -90,7 +90,15 @@ div-done low left e = sym (ap (λ (z : ℕ). low / 2 ^ z) e ∙ div-one low)
 pub up-done : (high left : ℕ) → left ≡ 0 → high ≡ up high (2 ^ left)
 up-done high left e = sym (ap (λ (z : ℕ). up high (2 ^ z)) e ∙ div-one (high + 0) ∙ (omega arith))
 
--- ---- of what is below the lower side nothing is left, or a part of it
+-- ---- what is doubled grows
+pub mul-grows : (m left : ℕ) → m ≤ m * 2 ^ left
+mul-grows m left = le-mul-of-pos-right m (pow-pos left)
+
+-- one doubling more of those that are left
+pub mul-next : (m left x : ℕ) → 0 < left → m * 2 ^ left ≡ x → m * 2 ≤ x
+mul-next m left x h e = le-trans (mul-grows (m * 2) (left - 1)) (le-of-eq (mul-step m left h ∙ e))
+
+-- ---- those that are left change nothing: what is below the lower side gives 0, and cut up 0 or 1
 pub low-below : (low left lower : ℕ) → low < lower → low / lower ≡ low / 2 ^ left / lower
 low-below low left lower h = div-eq-of-lt h ∙ sym (div-eq-of-lt (lt-of-le-of-lt (div-le-self low (2 ^ left)) h))
 
@@ -100,14 +108,7 @@ high-below high left lower C h =
     ∙ sym (up-small high (2 ^ left * lower) (mul-pos (pow-pos left) C) (le-trans h (le-trans (le-mul-of-pos-right lower (pow-pos left)) (le-of-eq (mul-comm lower (2 ^ left))))))
     ∙ sym (up-up high (2 ^ left) lower (pow-pos left) C)
 
-pub mul-grows : (m left : ℕ) → m ≤ m * 2 ^ left
-mul-grows m left = le-mul-of-pos-right m (pow-pos left)
-
--- one doubling more of those that are left
-pub mul-next : (m left x : ℕ) → 0 < left → m * 2 ^ left ≡ x → m * 2 ≤ x
-mul-next m left x h e = le-trans (mul-grows (m * 2) (left - 1)) (le-of-eq (mul-step m left h ∙ e))
-
--- ---- both sides of n / 2 ^ k doubled while the lower one is less than 2 ^ to, divided, and halved while it is more
+-- ---- both sides of n / 2 ^ k doubled while the lower one is less than 2 ^ to, or halved while it is more, and divided
 pub doubled-fits : (n k to : ℕ) → n ≤ 2 ^ 44 → to ≤ k + 8 → n * 2 ^ (to - k) ≤ 2 ^ 52
 doubled-fits n k to h g = mul-le-mul h (pow-mono (few g))
   where
