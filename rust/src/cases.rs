@@ -128,7 +128,7 @@ impl Case<'_> {
         written.min(self.room.len())
     }
 
-    /// n, as it stands in the record of the plan.
+    /// n, as it stands in the record of the plan, LB or LC.
     fn sections(&self) -> usize {
         self.read[0].get(2).map_or(0, |&n| n.into())
     }

@@ -2,12 +2,20 @@
 //! numbers, right ones and damaged ones.
 
 use crate::plain::key::{SLOT, START};
-use crate::plain::situation::{IN, LENGTH, NONE, OUT, SHORT_LENGTH, TEN_SECONDS};
-use crate::plain::{Event, Line, Parts, Question, Reading, Situation, events, readings, records};
+use crate::plain::situation::{AFBLE, AFBLI, IN, LENGTH, NONE, OUT, SHORT_LENGTH, TEN_SECONDS};
+use crate::plain::{
+    Edition, Event, Line, Parts, Plan, Question, Reading, Situation, events, readings, records,
+};
 use crate::random::Random;
 
-/// A plan, with the least and greatest ones more often.
+/// A plan of either edition.
 pub fn line(r: &mut Random) -> Line {
+    let edition = r.pick(&Edition::ALL);
+    line_of(r, edition)
+}
+
+/// A plan of an edition, with the least and greatest ones more often.
+pub fn line_of(r: &mut Random, edition: Edition) -> Line {
     let n = match r.below(4) {
         0 => r.pick(&[2, 3, 16]),
         1 => r.from(2, 6),
@@ -17,7 +25,7 @@ pub fn line(r: &mut Random) -> Line {
         0 => r.pick(&[1, n - 1]),
         _ => r.from(1, n - 1),
     };
-    Line::new(n as u8, b as u8).expect("a plan")
+    Line::new(Plan::new(edition, n as u8, b as u8)).expect("a plan")
 }
 
 /// A set with few, some or many members.
@@ -109,6 +117,57 @@ pub fn in_use(r: &mut Random, line: &Line) -> Situation {
         }
     }
     Situation::FRESH
+}
+
+/// Held signals of one direction, of these block signals: none, some of one
+/// station's area or some of both.
+fn held(r: &mut Random, line: &Line, signals: u16) -> u16 {
+    match r.below(5) {
+        0 => set(r, signals & line.area(0)),
+        1 => set(r, signals & line.area(1)),
+        2 => set(r, signals),
+        _ => 0,
+    }
+}
+
+/// A situation that is sound by 2024, with pairs that the 2012 rules exclude or
+/// near to one: an annulment, BILC, BSLG and held signals of both directions at
+/// the same station or at the other. What would refuse an order before is
+/// mostly away.
+pub fn paired(r: &mut Random, line: &Line) -> Situation {
+    for _ in 0..64 {
+        let mut situation = in_range(r, line);
+        situation.annulment = [0; 2].map(|_| r.pick(&[NONE, NONE, AFBLI, AFBLE]));
+        if situation.annulment != [NONE; 2] {
+            situation.orientation = [NONE; 2];
+        }
+        situation.held_towards_b = held(r, line, line.all() & !1);
+        situation.held_towards_a = held(r, line, line.all() & !line.last());
+        if !r.once_in(4) {
+            situation = Situation { exit: [0; 2], entry: [0; 2], pending: 0, ..situation };
+        }
+        if situation.is_sound(&line.under(Edition::Of2024)) {
+            return situation;
+        }
+    }
+    Situation::FRESH
+}
+
+/// The situation without such pairs, which is sound by both editions if it was
+/// by 2024: of each pair the annulment is away, or what it excludes.
+pub fn unpaired(r: &mut Random, line: &Line, mut situation: Situation) -> Situation {
+    for station in 0..2 {
+        if r.once_in(3) {
+            situation.annulment[station] = NONE;
+        }
+        if situation.annulment[station] != NONE {
+            situation.bilc &= !(1 << station);
+            situation.bslg &= !(1 << station);
+            situation.held_towards_b &= !line.area(station);
+            situation.held_towards_a &= !line.area(station);
+        }
+    }
+    situation
 }
 
 /// A situation that accepted events lead to, from the fresh one or a sound
@@ -233,6 +292,16 @@ pub fn signal(r: &mut Random, line: &Line) -> u8 {
     section(r, line) + r.pick(&[0, 128])
 }
 
+/// A block signal of the line.
+pub fn block_signal(r: &mut Random, line: &Line) -> u8 {
+    loop {
+        let signal = signal(r, line);
+        if line.is_block_signal(signal) {
+            return signal;
+        }
+    }
+}
+
 /// One of the occupied sections, if there are some.
 fn occupied_section(r: &mut Random, line: &Line, situation: &Situation) -> u8 {
     let is_occupied = |k: &u8| situation.occupied >> (k - 1) & 1 == 1;
@@ -250,12 +319,7 @@ pub fn event(r: &mut Random, line: &Line) -> Event {
         _ => r.from(events::EXIT_NORMAL.into(), events::FREED.into()) as u8,
     };
     let argument = match code {
-        events::BSLB | events::BSLB_RELEASE => loop {
-            let signal = signal(r, line);
-            if line.is_block_signal(signal) {
-                break signal;
-            }
-        },
+        events::BSLB | events::BSLB_RELEASE => block_signal(r, line),
         events::OCCUPIED | events::FREED => section(r, line),
         events::LINK_LOST | events::LINK_RESTORED => 0,
         _ => r.below(2) as u8,
@@ -274,6 +338,22 @@ pub const MET: [u8; 7] = [
     events::EXIT_NORMAL,
     events::EXIT_SPECIAL,
 ];
+
+/// The orders of a station that exclude each other by the 2012 rules.
+pub const EXCLUSIVE: [u8; 4] = [events::AFBLI_ORDER, events::AFBLE_ORDER, events::BILC, events::BSLG];
+
+/// An event in range that has to do with what the 2012 rules exclude: an
+/// annulment, BILC, BSLG or BSLB, or its release; now and then another one.
+pub fn exclusive_event(r: &mut Random, line: &Line) -> Event {
+    let (code, argument) = match r.below(8) {
+        0..3 => (r.pick(&EXCLUSIVE), r.below(2) as u8),
+        3 | 4 => (events::BSLB, block_signal(r, line)),
+        5 => (r.pick(&[events::DAFBL, events::DILC, events::BSLG_RELEASE]), r.below(2) as u8),
+        6 => (events::BSLB_RELEASE, block_signal(r, line)),
+        _ => return event(r, line),
+    };
+    Event { code, argument }
+}
 
 /// "One second passed, argument 0."
 pub const SECOND: Event = Event { code: events::SECOND, argument: 0 };
@@ -394,28 +474,47 @@ fn damaged_record(r: &mut Random, record: &[u8]) -> Vec<u8> {
     bytes
 }
 
-/// What is lent to a call as plan, and the line to choose the rest for: mostly
-/// the record of a plan, now and then with other numbers in it, damaged now
-/// and then.
+/// What is lent to a call as plan, and the line to choose the rest for.
 pub fn lent_plan(r: &mut Random) -> (Vec<u8>, Line) {
     let line = line(r);
-    let (mut n, mut b) = (line.sections(), line.frontier());
+    lent_plan_of(r, line)
+}
+
+/// The same for a line: mostly the record of its plan, LB or LC, now and then
+/// with other numbers in it, damaged now and then.
+pub fn lent_plan_of(r: &mut Random, line: Line) -> (Vec<u8>, Line) {
+    let mut plan = line.plan();
     match r.below(24) {
-        0 => n = changed_byte(r, n),
-        1 => b = changed_byte(r, b),
+        0 => plan.sections = changed_byte(r, plan.sections),
+        1 => plan.frontier = changed_byte(r, plan.frontier),
         _ => {}
     }
-    let record = records::plan_record(n, b);
-    let bytes = if r.once_in(20) { damaged_record(r, &record) } else { record.to_vec() };
-    (bytes, Line::new(n, b).unwrap_or(line))
+    let record = records::plan_record(plan);
+    let bytes = match r.below(40) {
+        0 | 1 => damaged_record(r, &record),
+        2 | 3 => mistaken_plan(r, plan),
+        _ => record.to_vec(),
+    };
+    (bytes, Line::new(plan).unwrap_or(line))
+}
+
+/// The letters LB or LC before the bytes of either, with another last byte too,
+/// or before some fewer or more.
+fn mistaken_plan(r: &mut Random, plan: Plan) -> Vec<u8> {
+    let letters = r.pick(&[b"LB", b"LC"]);
+    let last = if r.once_in(2) { 1 } else { changed_byte(r, 1) };
+    let mut bytes = [&letters[..], &[plan.sections, plan.frontier, last, r.byte()]].concat();
+    bytes.truncate(r.from(records::LB as u64 - 1, records::LC as u64 + 1) as usize);
+    bytes
 }
 
 /// What is lent to a call as situation: a record of any situation, SI or SJ,
-/// damaged now and then.
+/// sound by the line's edition or not, damaged now and then.
 pub fn lent_situation(r: &mut Random, line: &Line) -> Vec<u8> {
-    let record = match r.below(8) {
+    let record = match r.below(10) {
         0..4 => any_unmarked(r, line).to_record().to_vec(),
-        4 => reached_in_time(r, line).to_record().to_vec(),
+        4 | 5 => paired(r, line).to_record().to_vec(),
+        6 => reached_in_time(r, line).to_record().to_vec(),
         _ => any_marked(r, line).to_long_record().to_vec(),
     };
     match r.below(40) {
@@ -453,9 +552,15 @@ pub enum Search {
     Any,
 }
 
-/// An accepted question. Its readings mostly hold somewhere in its key.
+/// An accepted question of either edition.
 pub fn question(r: &mut Random, search: Search) -> Question {
     let line = line(r);
+    question_on(r, search, line)
+}
+
+/// An accepted question on a line. Its readings mostly hold somewhere in its
+/// key.
+pub fn question_on(r: &mut Random, search: Search, line: Line) -> Question {
     let start = match r.below(4) {
         0 => Situation::FRESH,
         1 => reached(r, &line),
@@ -485,6 +590,15 @@ pub fn question_in_time(r: &mut Random, search: Search) -> Question {
         _ => marked(r, &line),
     };
     question_from(r, search, line, start, |r, line| event_in_time(r, line, &start))
+}
+
+/// An accepted question that lists orders which the 2012 rules exclude, from a
+/// situation that is sound by both editions.
+pub fn question_of_exclusions(r: &mut Random, search: Search) -> Question {
+    let line = line(r);
+    let paired = paired(r, &line);
+    let start = unpaired(r, &line, paired);
+    question_from(r, search, line, start, exclusive_event)
 }
 
 fn question_from(
@@ -524,16 +638,9 @@ fn question_from(
         };
         asked.push([kind, argument, value]);
     }
-    Parts {
-        sections: line.sections(),
-        frontier: line.frontier(),
-        situation: start.to_bytes(),
-        events: &listed,
-        readings: &asked,
-        length,
-    }
-    .accept()
-    .expect("a question in range")
+    Parts { plan: line.plan(), situation: start.to_bytes(), events: &listed, readings: &asked, length }
+        .accept()
+        .expect("a question in range")
 }
 
 /// The bytes of a question.
@@ -542,6 +649,20 @@ pub fn question_bytes(question: &Question) -> Vec<u8> {
     let length = question.write(&mut bytes).expect("room");
     bytes.truncate(length);
     bytes
+}
+
+/// The bytes of a question with others in the place of its plan's record.
+pub fn with_plan(question: &Question, plan: &[u8]) -> Vec<u8> {
+    let mut bytes = question_bytes(question);
+    let [from, to, ..] = records(question);
+    bytes.splice(from..to, plan.iter().copied());
+    bytes
+}
+
+/// The bytes of the same question by the rules of an edition, where it need not
+/// be accepted.
+pub fn question_under(question: &Question, edition: Edition) -> Vec<u8> {
+    with_plan(question, &question.line().under(edition).to_record())
 }
 
 /// The bytes of a question with others in the place of its situation's record.
@@ -554,7 +675,7 @@ pub fn with_situation(question: &Question, situation: &[u8]) -> Vec<u8> {
 
 /// Where each record of a question starts, and the end.
 fn records(question: &Question) -> [usize; 6] {
-    let situation = records::PLAN;
+    let situation = question.line().to_record().len();
     let events = situation + question.situation().to_record().len();
     let readings = events + 3 + 2 * question.events().len();
     let length = readings + 3 + 3 * question.readings().len();
@@ -621,7 +742,7 @@ pub fn damaged(r: &mut Random, question: &Question) -> Vec<u8> {
         // A plan, a situation, events and readings that do not belong
         // together.
         10 => {
-            let line = line(r);
+            let line = line_of(r, question.line().edition());
             if r.once_in(2) {
                 bytes[at[0]..at[1]].copy_from_slice(&line.to_record());
             }

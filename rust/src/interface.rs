@@ -7,7 +7,7 @@ use crate::plain::refusal::number;
 use crate::plain::run::Run;
 use crate::plain::situation::LENGTH;
 use crate::plain::{
-    Aspects, Event, Line, Question, Refusal, Refused, Situation, key, marking, readings, records, run,
+    Aspects, Event, Line, Plan, Question, Refusal, Refused, Situation, key, marking, readings, records, run,
 };
 use crate::told;
 
@@ -100,15 +100,15 @@ pub const EVENT_ROOM: usize = 96;
 pub struct Plain;
 
 /// Plan and situation as they stand in their records.
-struct Given<'a> {
-    plan: &'a [u8; 2],
+struct Given {
+    plan: Plan,
     situation: [u8; LENGTH],
 }
 
-impl<'a> Given<'a> {
+impl Given {
     /// 20 where they are not exactly such records.
     #[inline]
-    fn read(plan: &'a [u8], situation: &'a [u8]) -> Result<Given<'a>, Refusal> {
+    fn read(plan: &[u8], situation: &[u8]) -> Result<Given, Refusal> {
         let plan = records::alone(plan, records::plan)?;
         let situation = records::alone(situation, records::situation)?;
         Ok(Given { plan, situation })
@@ -117,14 +117,9 @@ impl<'a> Given<'a> {
     /// 1, then 2.
     #[inline]
     fn judge(&self) -> Result<(Line, Situation), Refusal> {
-        let line = judged_plan(self.plan)?;
+        let line = Line::new(self.plan)?;
         Ok((line, Situation::read(&line, &self.situation)?))
     }
-}
-
-#[inline]
-fn judged_plan(&[sections, frontier]: &[u8; 2]) -> Result<Line, Refusal> {
-    Line::new(sections, frontier)
 }
 
 /// An event or a reading asked for: 20 where it has another length than two.
@@ -135,7 +130,7 @@ fn pair(bytes: &[u8]) -> Result<[u8; 2], Refusal> {
 
 #[inline]
 fn plan_accepted(plan: &[u8]) -> Result<Line, Refusal> {
-    judged_plan(records::alone(plan, records::plan)?)
+    Line::new(records::alone(plan, records::plan)?)
 }
 
 #[inline]

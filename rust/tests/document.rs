@@ -1,5 +1,5 @@
-//! The marked examples of document 01, laws that it states, and requests 01 and
-//! 02 of document 02, on the plain implementation.
+//! The marked examples of document 01, laws that it states, and requests 01, 02
+//! and 05 of document 02, on the plain implementation.
 
 use folvkin_compare::cases::from_hex;
 use folvkin_compare::generate::{self, Search};
@@ -8,11 +8,17 @@ use folvkin_compare::plain::keytext::{key_text, whole_key};
 use folvkin_compare::plain::marking::{RIGHT, WRONG, mark};
 use folvkin_compare::plain::run::{Run, run};
 use folvkin_compare::plain::situation::{AFBLE, IN, NONE, OUT};
-use folvkin_compare::plain::{Aspects, Event, Line, Parts, Question, Refusal, Refused, Situation, readings};
+use folvkin_compare::plain::{
+    Aspects, Edition, Event, Line, Parts, Plan, Question, Refusal, Refused, Situation, readings,
+};
 use folvkin_compare::random::Random;
 
 const A: u8 = 0;
 const B: u8 = 1;
+
+fn line(edition: Edition, sections: u8, frontier: u8) -> Line {
+    Line::new(Plan::new(edition, sections, frontier)).unwrap()
+}
 
 /// Plan 4, 2, from the fresh situation.
 #[derive(Clone, Copy)]
@@ -23,7 +29,12 @@ struct Example {
 
 impl Example {
     fn new() -> Example {
-        Example { line: Line::new(4, 2).unwrap(), situation: Situation::FRESH }
+        Example { line: line(Edition::Of2024, 4, 2), situation: Situation::FRESH }
+    }
+
+    /// The same by the rules of an edition, where it is sound too.
+    fn under(self, edition: Edition) -> Example {
+        Example { line: self.line.under(edition), ..self }
     }
 
     fn event(&mut self, code: u8, argument: u8) -> u8 {
@@ -41,11 +52,19 @@ impl Example {
 
     /// The events are all accepted.
     fn after(events: &[(u8, u8)]) -> Example {
-        let mut example = Example::new();
+        Example::new().then(events)
+    }
+
+    /// Events that are all accepted, by the 2012 rules.
+    fn after_by_2012(events: &[(u8, u8)]) -> Example {
+        Example::new().under(Edition::Of2012).then(events)
+    }
+
+    fn then(mut self, events: &[(u8, u8)]) -> Example {
         for &(code, argument) in events {
-            assert_eq!(example.event(code, argument), 0);
+            assert_eq!(self.event(code, argument), 0);
         }
-        example
+        self
     }
 
     /// Mark and count.
@@ -139,8 +158,7 @@ fn example_10() {
 #[test]
 fn the_run_by_program() {
     let parts = Parts {
-        sections: 4,
-        frontier: 2,
+        plan: Plan::new(Edition::Of2024, 4, 2),
         situation: Situation::FRESH.to_bytes(),
         events: &[[1, A], [2, B], [14, A], [17, B]],
         readings: &[[1, 1, 2]],
@@ -235,7 +253,7 @@ fn only_9_and_13_name() {
             (15, 14 | 15) => assert_eq!((name, lowest, holds_route(event.argument ^ 1)), (0, None, true)),
             (9, 1 | 2) => assert_eq!(Some(name), [A, B].into_iter().find(|&station| holds_route(station))),
             (9, 3 | 4 | 6) => assert_eq!((name, holds_route(name)), (event.argument, true)),
-            (5..=8 | 10..=12 | 14, _) => assert_eq!(name, 0),
+            (5..=8 | 10..=12 | 14 | 16 | 17, _) => assert_eq!(name, 0),
             other => panic!("{other:?}"),
         }
     }
@@ -245,8 +263,7 @@ fn only_9_and_13_name() {
 #[test]
 fn runs_tell_the_name() {
     let parts = Parts {
-        sections: 4,
-        frontier: 2,
+        plan: Plan::new(Edition::Of2024, 4, 2),
         situation: Situation::FRESH.to_bytes(),
         events: &[[1, A], [2, B], [14, A], [14, B], [19, 3], [19, 2], [6, A], [1, B], [2, A], [6, B]],
         readings: &[],
@@ -439,7 +456,7 @@ fn an_exit_route_clears_both() {
 /// either a section occupied or a count above 0."
 #[test]
 fn marks_and_counts_are_sound() {
-    let line = Line::new(4, 2).unwrap();
+    let line = line(Edition::Of2024, 4, 2);
     for (occupied, exit) in [(0, [0, 0]), (4, [0, 0]), (0, [1, 0]), (0, [0, 2]), (9, [1, 1])] {
         for mark in 0..=255 {
             for count in 0..=255 {
@@ -519,6 +536,247 @@ fn is_stray(line: &Line, s: &Situation, section: u8) -> bool {
     s.exit == [0, 0] && !(is_occupied && (s.link == 1 || !across))
 }
 
+/// The sixth and the seventh example and their like by the 2012 rules, which
+/// end in a refusal; by those of 2024 the last order is accepted, but for BSLG
+/// after AFBLI.
+#[test]
+fn examples_by_2012() {
+    for (events, order, by_2012, by_2024) in [
+        (&[(8, A)][..], (3, A), 16, 0),
+        (&[(8, A)], (4, A), 16, 0),
+        (&[(3, A)], (8, A), 8, 8),
+        (&[(4, A)], (8, A), 8, 8),
+        (&[(6, A)], (3, A), 11, 0),
+        (&[(6, A)], (4, A), 11, 0),
+        (&[(3, A)], (6, A), 8, 0),
+        (&[(4, A)], (6, A), 8, 0),
+        (&[(10, 2)], (3, A), 17, 0),
+        (&[(10, 129)], (3, A), 17, 0),
+        (&[(10, 130)], (4, A), 17, 0),
+        (&[(10, 3)], (4, B), 17, 0),
+        (&[(10, 4)], (3, B), 17, 0),
+        (&[(10, 131)], (3, B), 17, 0),
+        (&[(3, A)], (10, 2), 8, 0),
+        (&[(4, A)], (10, 129), 8, 0),
+        (&[(4, A)], (10, 130), 8, 0),
+        (&[(3, B)], (10, 3), 8, 0),
+        (&[(4, B)], (10, 4), 8, 0),
+        (&[(3, B)], (10, 131), 8, 0),
+    ] {
+        assert_eq!(Example::after_by_2012(events).told(order.0, order.1), (by_2012, 0));
+        assert_eq!(Example::after(events).told(order.0, order.1), (by_2024, 0));
+    }
+}
+
+/// "Any BSLB in the station's own area", BILC and BSLG of the station itself:
+/// what the other station has does not matter.
+#[test]
+fn the_other_station_does_not_matter() {
+    for annulment in [3, 4] {
+        for at_a in [(6, A), (8, A), (10, 2), (10, 129), (10, 130)] {
+            assert_eq!(Example::after_by_2012(&[at_a]).event(annulment, B), 0);
+            assert_eq!(Example::after_by_2012(&[(annulment, B)]).event(at_a.0, at_a.1), 0);
+        }
+        for at_b in [(6, B), (8, B), (10, 3), (10, 4), (10, 131)] {
+            assert_eq!(Example::after_by_2012(&[at_b]).event(annulment, A), 0);
+            assert_eq!(Example::after_by_2012(&[(annulment, A)]).event(at_b.0, at_b.1), 0);
+        }
+    }
+}
+
+/// "For AFBLI and AFBLE after all checks in 01, 11 BILC, 16 BSLG, 17 BSLB, in
+/// that order": of all that stands in the way one after the other is taken
+/// away.
+#[test]
+fn annulments_are_refused_in_order() {
+    for own in [A, B] {
+        let (held, route) = if own == A { (2, (14, A)) } else { (131, (14, B)) };
+        for annulment in [3, 4] {
+            let mut example = Example::after_by_2012(&[(6, own), (8, own), (10, held), (17, own), (1, own)]);
+            assert_eq!(example.told(annulment, own), (7, 0));
+            assert_eq!(example.event(2, own ^ 1), 0);
+            let mut with_route = example.then(&[(7, own), route]);
+            assert_eq!(with_route.told(annulment, own), (9, own));
+            if annulment == 4 {
+                assert_eq!(example.told(annulment, own), (10, 0));
+                assert_eq!(example.event(18, own), 0);
+            }
+            for (refusal, release) in [(11, (7, own)), (16, (9, own)), (17, (11, held))] {
+                assert_eq!(example.told(annulment, own), (refusal, 0));
+                assert_eq!(example.event(release.0, release.1), 0);
+            }
+            assert_eq!(example.told(annulment, own), (0, 0));
+            assert_eq!(example.told(annulment, own), (8, 0));
+        }
+    }
+}
+
+/// "For BILC and BSLB, 8 own annulled, after all else": BILC 5, 9, 8; BSLB 5,
+/// 8. (On a sound situation 5 and 8 never meet.)
+#[test]
+fn own_annulled_goes_after_all_else() {
+    for own in [A, B] {
+        let mut example = Example::after_by_2012(&[(4, own), (15, own)]);
+        assert_eq!(example.told(6, own), (9, own));
+        assert_eq!(example.event(16, own), 0);
+        assert_eq!(example.told(6, own), (8, 0));
+        assert_eq!(example.event(5, own), 0);
+        assert_eq!(example.told(6, own), (0, 0));
+        assert_eq!(example.told(6, own), (5, 0));
+        let (signal, other) = if own == A { (130, 3) } else { (3, 130) };
+        let mut example = Example::after_by_2012(&[(3, own), (10, other)]);
+        assert_eq!(example.told(10, other), (5, 0));
+        assert_eq!(example.told(10, signal), (8, 0));
+        assert_eq!(example.then(&[(5, own)]).told(10, signal), (0, 0));
+    }
+}
+
+/// "The releases check nothing new", and an annulment that an occupation takes
+/// away excludes nothing any more.
+#[test]
+fn what_was_released_excludes_nothing() {
+    for annulment in [3, 4] {
+        for (set, release) in [((6, A), (7, A)), ((8, A), (9, A)), ((10, 129), (11, 129))] {
+            let mut example = Example::after_by_2012(&[set, release, (annulment, A)]);
+            assert_eq!(example.event(set.0, set.1), 8);
+            assert_eq!(example.event(release.0, release.1), 5);
+            assert_eq!({ example }.then(&[(5, A)]).event(set.0, set.1), 0);
+            assert_eq!(example.then(&[(19, 2)]).event(set.0, set.1), 0);
+        }
+    }
+}
+
+/// Whether an annulled station has BILC, BSLG or a held signal in its area, by
+/// the words of the request.
+fn has_pair(line: &Line, s: &Situation) -> bool {
+    (0..2u8).any(|station| {
+        let owns = |section: u8| (section > line.frontier()) == (station == B);
+        let held = s.held_towards_b | s.held_towards_a;
+        let is_held = |section: u8| held >> (section - 1) & 1 == 1;
+        let set = |stations: u8| stations >> station & 1 == 1;
+        s.annulment[usize::from(station)] != NONE
+            && (set(s.bilc) || set(s.bslg) || (1..=line.sections()).any(|k| owns(k) && is_held(k)))
+    })
+}
+
+/// "In that edition a situation with such a pair is not sound": every
+/// annulment, BILC, BSLG and held signals of the plans with four sections.
+#[test]
+fn pairs_are_not_sound() {
+    for frontier in 1..=3 {
+        let (by_2024, by_2012) = (line(Edition::Of2024, 4, frontier), line(Edition::Of2012, 4, frontier));
+        let mut sound = [0; 2];
+        for annulments in 0..9 {
+            for stations in 0..16 {
+                for held in 0..64 {
+                    let situation = Situation {
+                        annulment: [annulments / 3, annulments % 3],
+                        bilc: stations / 4,
+                        bslg: stations % 4,
+                        held_towards_b: (held / 8) << 1,
+                        held_towards_a: held % 8,
+                        ..Situation::FRESH
+                    };
+                    assert!(situation.is_sound(&by_2024));
+                    assert_eq!(situation.is_sound(&by_2012), !has_pair(&by_2012, &situation));
+                    sound[usize::from(situation.is_sound(&by_2012))] += 1;
+                }
+            }
+        }
+        // A station is annulled in two ways with nothing beside it, or not
+        // annulled with anything; the two areas have six block signals.
+        let in_a = 2 * frontier - 1;
+        let of_station = |signals: u8| 2 + 4 * (1 << signals);
+        assert_eq!(sound[1], of_station(in_a) * of_station(6 - in_a));
+    }
+}
+
+/// By 2012 an event is refused as by 2024 or, where 2024 accepts it, by 11, 16,
+/// 17 or 8 in the words of the request; accepted, it leads to the same.
+#[test]
+fn by_2012_as_by_2024_but_for_the_exclusions() {
+    let r = &mut Random::new(18);
+    let mut excluded = [0; 18];
+    for _ in 0..400_000 {
+        let line = generate::line_of(r, Edition::Of2012);
+        let by_2024 = line.under(Edition::Of2024);
+        let before = match r.below(4) {
+            0 => generate::reached_in_time(r, &line),
+            1 => generate::in_use(r, &line),
+            _ => {
+                let paired = generate::paired(r, &line);
+                assert!(paired.is_sound(&by_2024));
+                assert_eq!(paired.is_sound(&line), !has_pair(&line, &paired));
+                generate::unpaired(r, &line, paired)
+            }
+        };
+        assert!(before.is_sound(&line) && before.is_sound(&by_2024));
+        let event =
+            if r.once_in(3) { generate::event(r, &line) } else { generate::exclusive_event(r, &line) };
+        let (mut after, mut after_by_2024) = (before, before);
+        let told = after.try_event(&line, event);
+        let told_by_2024 = after_by_2024.try_event(&by_2024, event);
+        let is_set = |stations: u8| stations >> event.argument & 1 == 1;
+        let in_own_area = |section: u8| (section > line.frontier()) == (event.argument == B);
+        let held = before.held_towards_b | before.held_towards_a;
+        let due = match event.code {
+            3 | 4 if is_set(before.bilc) => 11,
+            3 | 4 if is_set(before.bslg) => 16,
+            3 | 4 if (1..=line.sections()).any(|k| in_own_area(k) && held >> (k - 1) & 1 == 1) => 17,
+            6 if before.annulment[usize::from(event.argument)] != NONE => 8,
+            10 if before.annulment[usize::from(event.argument & 127 > line.frontier())] != NONE => 8,
+            _ => 0,
+        };
+        if told_by_2024.is_err() || due == 0 {
+            assert_eq!((told, after), (told_by_2024, after_by_2024));
+        } else {
+            let Err(Refused { refusal, name }) = told else { panic!("{event:?} is accepted") };
+            assert_eq!((refusal as u8, name, after), (due, 0, before));
+            excluded[usize::from(due)] += 1;
+        }
+    }
+    assert!([8, 11, 16, 17].iter().all(|&refusal| excluded[refusal] > 5_000), "{excluded:?}");
+}
+
+/// A key by 2012 is the key by 2024 without the sequences that an exclusion
+/// stops.
+#[test]
+fn keys_lose_what_is_excluded() {
+    let r = &mut Random::new(19);
+    let mut lost = 0;
+    for _ in 0..2_000 {
+        let question = generate::question_of_exclusions(r, Search::Small);
+        let [by_2024, by_2012] = Edition::ALL
+            .map(|edition| Question::read(&generate::question_under(&question, edition)).unwrap());
+        let is_excluded = |slot: &[u8; SLOT]| match run(&by_2012, slot) {
+            Ok(Run::Stopped { by: Refused { refusal, name: 0 }, .. }) => {
+                matches!(refusal as u8, 8 | 11 | 16 | 17)
+            }
+            _ => false,
+        };
+        let (all, kept) = (whole_key(&by_2024), whole_key(&by_2012));
+        let (all, kept) = (all.as_chunks::<SLOT>().0, kept.as_chunks::<SLOT>().0);
+        assert!(all.iter().filter(|slot| !is_excluded(slot)).eq(kept));
+        lost += all.len() - kept.len();
+    }
+    assert!(lost > 10_000, "{lost}");
+}
+
+/// The paper `rules-2012.bin` and how many sequences its key has, by 2012 as it
+/// stands and by 2024.
+#[test]
+fn the_paper_of_2012() {
+    let paper = include_bytes!("../../papers/rules-2012.bin");
+    let question = Question::read(paper).unwrap();
+    assert_eq!(question.line().edition(), Edition::Of2012);
+    assert_eq!(whole_key(&question).len(), BY_2012 * SLOT);
+    let by_2024 = Question::read(&generate::question_under(&question, Edition::Of2024)).unwrap();
+    assert_eq!(whole_key(&by_2024).len(), BY_2024 * SLOT);
+}
+
+const BY_2012: usize = 46;
+const BY_2024: usize = 564;
+
 /// "Every accepted event leads from a sound situation to a sound one."
 #[test]
 fn soundness_is_kept() {
@@ -529,6 +787,16 @@ fn soundness_is_kept() {
         let event = generate::event(r, &line);
         let before = situation;
         match situation.try_event(&line, event) {
+            Ok(()) => assert!(situation.is_sound(&line) && situation != before),
+            Err(_) => assert_eq!(situation, before),
+        }
+    }
+    for _ in 0..200_000 {
+        let line = generate::line(r);
+        let paired = generate::paired(r, &line);
+        let before = generate::unpaired(r, &line, paired);
+        let mut situation = before;
+        match situation.try_event(&line, generate::exclusive_event(r, &line)) {
             Ok(()) => assert!(situation.is_sound(&line) && situation != before),
             Err(_) => assert_eq!(situation, before),
         }
@@ -546,9 +814,13 @@ fn soundness_is_kept() {
     }
 }
 
-/// A question of either kind.
+/// A question of any kind.
 fn question(r: &mut Random, search: Search) -> Question {
-    if r.once_in(2) { generate::question(r, search) } else { generate::question_in_time(r, search) }
+    match r.below(3) {
+        0 => generate::question(r, search),
+        1 => generate::question_in_time(r, search),
+        _ => generate::question_of_exclusions(r, search),
+    }
 }
 
 /// A key with seconds: an exit route at B, which is in, when the count of 2 has
@@ -557,8 +829,7 @@ fn question(r: &mut Random, search: Search) -> Question {
 fn keys_wait_for_the_count() {
     let situation = Situation { orientation: [OUT, IN], mark: 1, count: 2, ..Situation::FRESH };
     let parts = Parts {
-        sections: 4,
-        frontier: 2,
+        plan: Plan::new(Edition::Of2024, 4, 2),
         situation: situation.to_bytes(),
         events: &[[23, 0], [14, B]],
         readings: &[[4, B, 1]],

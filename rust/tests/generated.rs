@@ -1,16 +1,19 @@
 //! What generated cases contain: each way in which an order meets what is on
-//! the line, and all that can become of mark and count.
+//! the line, all that can become of mark and count, and plans of both editions
+//! with all that the 2012 rules exclude.
 
 use std::collections::BTreeMap;
 
 use folvkin_compare::generate::{self, Search};
 use folvkin_compare::interface::{Interface, Plain};
 use folvkin_compare::plain::events::{
-    AFBLE_ORDER, AFBLI_ORDER, BILC, COBB, EXIT_NORMAL, EXIT_SPECIAL, FREED, OCCUPIED, SECOND, SOBB,
+    AFBLE_ORDER, AFBLI_ORDER, BILC, BSLB, BSLG, COBB, EXIT_NORMAL, EXIT_SPECIAL, FREED, OCCUPIED, SECOND,
+    SOBB,
 };
+use folvkin_compare::plain::keytext::whole_key;
 use folvkin_compare::plain::run::{Run, run};
-use folvkin_compare::plain::situation::{IN, LENGTH};
-use folvkin_compare::plain::{Event, Line, Refused, Situation};
+use folvkin_compare::plain::situation::{IN, LENGTH, NONE};
+use folvkin_compare::plain::{Edition, Event, Line, Question, Refusal, Refused, Situation};
 use folvkin_compare::random::Random;
 
 /// Refusal, code, station, which stations hold exit routes (1 A, 2 B, 3 both),
@@ -208,6 +211,197 @@ fn lent_situations_are_of_both_records() {
         things.add("SJ, both missing", is_long && lent.len() == LENGTH);
         things.add("SJ, bytes left over", is_long && lent.len() > LENGTH + 2);
         things.add("SI, mark and count left over", lent.starts_with(b"SI") && body.is_some());
+    }
+    things.all_came(20);
+}
+
+/// Refusal (0 for accepted), code and station of an order that the 2012 rules
+/// exclude; of BSLB the station is the signal's.
+type Exclusion = (u8, u8, usize);
+
+/// How often each came, by the rules of an edition.
+#[derive(Default)]
+struct Exclusions(BTreeMap<(bool, Exclusion), u32>);
+
+impl Exclusions {
+    fn add(&mut self, line: &Line, event: Event, told: Result<(), Refusal>) {
+        let station = match event.code {
+            BSLB => line.owner(event.argument & 127),
+            _ => usize::from(event.argument),
+        };
+        let refusal = told.map_or_else(|refusal| refusal as u8, |()| 0);
+        let by_2012 = line.edition() == Edition::Of2012;
+        *self.0.entry((by_2012, (refusal, event.code, station))).or_default() += 1;
+    }
+
+    fn times(&self, by_2012: bool, exclusion: Exclusion) -> u32 {
+        self.0.get(&(by_2012, exclusion)).copied().unwrap_or(0)
+    }
+
+    /// Each has come so often at least by 2012; by 2024 the order was accepted
+    /// as often, and BSLG refused by 8.
+    fn all_came(&self, least: u32) {
+        for station in 0..2 {
+            for (refusals, code) in [
+                (&[0, 11, 16, 17][..], AFBLI_ORDER),
+                (&[0, 10, 11, 16, 17], AFBLE_ORDER),
+                (&[0, 8], BILC),
+                (&[0, 8], BSLG),
+                (&[0, 8], BSLB),
+            ] {
+                for &refusal in refusals {
+                    let times = self.times(true, (refusal, code, station));
+                    assert!(times >= least, "{code} refused by {refusal} at {station} came {times} times");
+                }
+                let times = self.times(false, (0, code, station));
+                assert!(times >= least, "{code} accepted at {station} by 2024 came {times} times");
+            }
+            assert!(self.times(false, (8, BSLG, station)) >= least);
+            for (refusal, code) in
+                [(11, AFBLI_ORDER), (16, AFBLI_ORDER), (17, AFBLI_ORDER), (8, BILC), (8, BSLB)]
+            {
+                assert_eq!(self.times(false, (refusal, code, station)), 0);
+            }
+        }
+    }
+}
+
+#[test]
+fn orders_meet_what_they_exclude() {
+    let r = &mut Random::new(20);
+    let mut exclusions = Exclusions::default();
+    let mut things = Things::default();
+    for _ in 0..10_000 {
+        let line = generate::line(r);
+        let paired = generate::paired(r, &line);
+        let unpaired = generate::unpaired(r, &line, paired);
+        let [by_2024, by_2012] = Edition::ALL.map(|edition| line.under(edition));
+        assert!([by_2024, by_2012].iter().all(|line| unpaired.is_sound(line)));
+        things.add_pairs(&by_2012, &paired);
+        for (line, situation) in [(by_2024, paired), (by_2024, unpaired), (by_2012, unpaired)] {
+            for code in generate::EXCLUSIVE {
+                for argument in 0..2 {
+                    let event = Event { code, argument };
+                    exclusions.add(&line, event, { situation }.apply(&line, event));
+                }
+            }
+            for _ in 0..4 {
+                let event = Event { code: BSLB, argument: generate::block_signal(r, &line) };
+                let told = { situation }.apply(&line, event);
+                exclusions.add(&line, event, told);
+                things.add_held(&line, &situation, event.argument, told);
+            }
+        }
+    }
+    exclusions.all_came(500);
+    things.all_came(200);
+}
+
+impl Things {
+    /// How annulments stand beside what the 2012 rules exclude.
+    fn add_pairs(&mut self, by_2012: &Line, s: &Situation) {
+        let is_sound = s.is_sound(by_2012);
+        let excluded = |own: usize| {
+            let area = by_2012.area(own);
+            let is_set = |stations: u8| stations >> own & 1 == 1;
+            [is_set(s.bilc), is_set(s.bslg), s.held_towards_b & area != 0, s.held_towards_a & area != 0]
+        };
+        for (own, names) in [
+            ["A with BILC alone", "A with BSLG alone", "A with BSLB towards B", "A with BSLB towards A"],
+            ["B with BILC alone", "B with BSLG alone", "B with BSLB towards B", "B with BSLB towards A"],
+        ]
+        .into_iter()
+        .enumerate()
+        {
+            let excluded = excluded(own);
+            let is_one = excluded.into_iter().filter(|&so| so).count() == 1;
+            for (name, so) in names.into_iter().zip(excluded) {
+                self.add(name, s.annulment[own] != NONE && is_one && so && !is_sound);
+            }
+        }
+        let [a, b] = s.annulment.map(|annulment| annulment != NONE);
+        let [at_a, at_b] = [0, 1].map(|own| excluded(own).contains(&true));
+        self.add("A annulled, all at B", is_sound && a && !b && at_b);
+        self.add("B annulled, all at A", is_sound && !a && b && at_a);
+        self.add("both annulled, nothing beside", is_sound && a && b);
+        self.add("none annulled, something there", is_sound && !a && !b && at_a && at_b);
+        self.add("pairs at both", !is_sound && a && b && at_a && at_b);
+    }
+
+    /// A block signal that is to be held.
+    fn add_held(&mut self, line: &Line, s: &Situation, signal: u8, told: Result<(), Refusal>) {
+        let own = line.owner(signal & 127);
+        let by_8 = told == Err(Refusal::Annulled);
+        self.add("BSLB towards B by 8", by_8 && signal < 128);
+        self.add("BSLB towards A by 8", by_8 && signal > 128);
+        let accepted = told.is_ok() && line.edition() == Edition::Of2012;
+        self.add("BSLB, the other annulled", accepted && s.annulment[own ^ 1] != NONE);
+    }
+}
+
+#[test]
+fn runs_meet_what_they_exclude() {
+    let r = &mut Random::new(21);
+    let mut exclusions = Exclusions::default();
+    let mut things = Things::default();
+    for _ in 0..20_000 {
+        let question = generate::question_of_exclusions(r, Search::Small);
+        let by_both = Edition::ALL
+            .map(|edition| Question::read(&generate::question_under(&question, edition)).expect("accepted"));
+        for last in 1..=question.events().len() {
+            let slot = generate::slot_to(r, &question, last);
+            for question in &by_both {
+                let mut situation = *question.situation();
+                for &place in &slot[1..=usize::from(slot[0])] {
+                    let event = question.events()[usize::from(place) - 1];
+                    let told = situation.apply(question.line(), event);
+                    exclusions.add(question.line(), event, told);
+                    if told.is_err() {
+                        break;
+                    }
+                }
+            }
+        }
+        let [by_2024, by_2012] = by_both.map(|question| whole_key(&question).len());
+        things.add("fewer in the key of 2012", by_2012 < by_2024 && by_2012 > 0);
+        things.add("none in the key of 2012", by_2012 == 0 && by_2024 > 0);
+        things.add("as many in both keys", by_2012 == by_2024 && by_2012 > 0);
+        things.add("asked by 2024", question.line().edition() == Edition::Of2024);
+        things.add("asked by 2012", question.line().edition() == Edition::Of2012);
+    }
+    exclusions.all_came(100);
+    things.all_came(50);
+}
+
+#[test]
+fn lent_plans_are_of_both_records() {
+    let r = &mut Random::new(22);
+    let mut things = Things::default();
+    for _ in 0..40_000 {
+        let (lent, line) = generate::lent_plan(r);
+        let refusal = Plain::plan(&lent);
+        let [is_lb, is_lc] = [b"LB", b"LC"].map(|letters| lent.starts_with(letters));
+        things.add("LB, accepted", is_lb && refusal == 0);
+        things.add("LB, numbers out of range", is_lb && refusal == 1);
+        things.add("LB, cut", is_lb && lent.len() < 4);
+        things.add("LB, one byte more", is_lb && lent.len() == 5);
+        things.add("LB, a 1 more", is_lb && lent.len() == 5 && lent[4] == 1);
+        things.add("LC, accepted", is_lc && refusal == 0);
+        things.add("LC, numbers out of range", is_lc && refusal == 1);
+        things.add("LC, another last byte", is_lc && refusal == 20 && lent.len() == 5);
+        things.add("LC, last byte 0", is_lc && lent.len() == 5 && lent[4] == 0);
+        things.add("LC, last byte missing", is_lc && lent.len() == 4);
+        things.add("LC, cut", is_lc && lent.len() < 4);
+        things.add("LC, bytes left over", is_lc && lent.len() > 5);
+        things.add("other letters", !is_lb && !is_lc && lent.len() >= 4);
+        // Situations that are sound by 2024 alone, and by 2012.
+        let situation = generate::lent_situation(r, &line);
+        let by = |edition| Plain::situation(&line.under(edition).to_record(), &situation);
+        let is_asked_by_2012 = line.edition() == Edition::Of2012;
+        let [by_2024, by_2012] = Edition::ALL.map(by);
+        things.add("sound by 2024 alone, asked by 2012", is_asked_by_2012 && [by_2024, by_2012] == [0, 2]);
+        things.add("sound by 2024 alone, asked by 2024", !is_asked_by_2012 && [by_2024, by_2012] == [0, 2]);
+        things.add("sound by both, asked by 2012", is_asked_by_2012 && [by_2024, by_2012] == [0, 0]);
     }
     things.all_came(20);
 }

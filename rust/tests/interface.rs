@@ -6,7 +6,7 @@ use folvkin_compare::cases::{Case, Kept, Kind, answer_to, plain};
 use folvkin_compare::generate::{self, Search};
 use folvkin_compare::interface::{EVENT_ROOM, Interface, Plain};
 use folvkin_compare::plain::key::{SLOT, START};
-use folvkin_compare::plain::{Line, Situation};
+use folvkin_compare::plain::{Edition, Line, Plan, Situation};
 use folvkin_compare::random::Random;
 use folvkin_compare::{told, with_the_calls};
 
@@ -21,19 +21,31 @@ fn first_due(due: &[u8]) -> u8 {
     ORDER.into_iter().find(|refusal| due.contains(refusal)).unwrap_or(0)
 }
 
-const PLANS: [Due; 8] = [
+const PLANS: [Due; 20] = [
     (b"LB\x04\x02", 0),
     (b"LB\x01\x01", 1),
     (b"LB\x04\x04", 1),
     (b"", 20),
-    (b"LC\x04\x02", 20),
     (b"LB\x04", 20),
     (b"LB\x04\x02\0", 20),
+    (b"LB\x04\x02\x01", 20),
     (b"LB\x01\x01\x01", 20),
+    (b"LC\x04\x02\x01", 0),
+    (b"LC\x01\x01\x01", 1),
+    (b"LC\x04\x04\x01", 1),
+    (b"LC\x04\x02\0", 20),
+    (b"LC\x04\x02\x02", 20),
+    (b"LC\x04\x02\xff", 20),
+    (b"LC\x01\x01\x02", 20),
+    (b"LC\x04\x02", 20),
+    (b"LC\x04\x02\x01\x01", 20),
+    (b"LD\x04\x02\x01", 20),
+    (b"LA\x04\x02", 20),
+    (b"CL\x04\x02\x01", 20),
 ];
 
-/// On those that are sound nothing is pending and no signal is clear; the line
-/// is free in the first.
+/// By either edition. On those that are sound nothing is pending and no signal
+/// is clear; the line is free in the first.
 const SITUATIONS: [Due; 19] = [
     (b"SI\x01\0\0\0\0\0\0\0\0\0\0\0\0\0\0\0\0\0\0", 0),
     (b"SJ\x01\0\0\0\0\0\0\0\0\0\0\0\0\0\0\0\0\0\0\x01\x0a", 0),
@@ -161,7 +173,8 @@ fn readings_are_refused_in_order() {
 #[test]
 fn questions_are_refused_in_order() {
     for ((plan, due_plan), (situation, due_situation)) in plans_and_situations() {
-        if plan.len() != 4 || !matches!(situation.len(), 21 | 23) {
+        let plan_length = if plan.starts_with(b"LC") { 5 } else { 4 };
+        if plan.len() != plan_length || !matches!(situation.len(), 21 | 23) {
             continue;
         }
         for (lists, due_lists) in LISTS {
@@ -200,7 +213,7 @@ fn marks_are_refused_in_order() {
 /// The second marked example, by calls alone.
 #[test]
 fn what_an_event_wrote_is_lent_to_the_next() {
-    let plan = Line::new(4, 2).unwrap().to_record();
+    let plan = Line::new(Plan::new(Edition::Of2024, 4, 2)).unwrap().to_record();
     let mut situation = Situation::FRESH.to_record().to_vec();
     let mut happen = |event: [u8; 2]| {
         let mut room = [0; EVENT_ROOM];
@@ -279,7 +292,8 @@ fn events_tell_the_name() {
     for (situation, event, refusal, name) in NAMED {
         let mut room = [7; EVENT_ROOM];
         assert_eq!(Plain::event(b"LB\x04\x02", situation, &event, &mut room), refusal + (name << 8));
-        assert_eq!(Plain::event(b"LC\x04\x02", situation, &event, &mut room), 20);
+        assert_eq!(Plain::event(b"LC\x04\x02\x01", situation, &event, &mut room), refusal + (name << 8));
+        assert_eq!(Plain::event(b"LC\x04\x02\x02", situation, &event, &mut room), 20);
         assert_eq!(Plain::event(b"LB\x04\x02", situation, &[event[0], event[1], 0], &mut room), 20);
         assert_eq!(Plain::event(b"LB\x04\x04", situation, &event, &mut room), 1);
         let mut unsound = *situation;
@@ -309,21 +323,102 @@ fn runs_tell_the_name() {
     }
 }
 
+/// "In either edition 20 for another last byte in LC", and before 1.
+#[test]
+fn the_last_byte_of_lc_is_1() {
+    let (by_2024, situation) = (b"LB\x04\x02", SITUATIONS[0].0);
+    for last in 0..=255 {
+        for (sections, due) in [(4, 0), (1, 1)] {
+            let plan = [b'L', b'C', sections, 2, last];
+            let due = if last == 1 { due } else { 20 };
+            assert_eq!(Plain::plan(&plan), due);
+            assert_eq!(Plain::situation(&plan, situation), due);
+            assert_eq!(told::Event::from(Plain::event(&plan, situation, &[1, 0], &mut [0; 96])).refusal, due);
+            assert_eq!(Plain::aspects(&plan, situation, &mut [0; 8]), due);
+            assert_eq!(Plain::reading(&plan, situation, &[5, 0]), due.into());
+            let question = [&plan, situation, LISTS[0].0].concat();
+            assert_eq!(Plain::question(&question), due);
+            assert_eq!(told::Key::from(Plain::key(&question, &START, &mut [0; 6])).refusal, due);
+            assert_eq!(told::Run::from(Plain::run(&question, &[0; SLOT])).refusal, due);
+            // LB has no last byte.
+            assert_eq!(Plain::plan(&[&by_2024[..], &[last]].concat()), 20);
+        }
+    }
+}
+
+/// A annulled by AFBLI with BILC, with BSLG, and with signals 2, 129 and 130
+/// held.
+const PAIRS: [&[u8; 21]; 5] = [
+    b"SI\x01\0\0\x01\0\0\0\0\0\0\x01\0\0\0\0\0\0\0\0",
+    b"SI\x01\0\0\x01\0\0\0\0\0\0\0\x01\0\0\0\0\0\0\0",
+    b"SI\x01\0\0\x01\0\0\0\0\0\0\0\0\0\0\0\x02\0\0\0",
+    b"SI\x01\0\0\x01\0\0\0\0\0\0\0\0\0\0\0\0\0\x01\0",
+    b"SI\x01\0\0\x01\0\0\0\0\0\0\0\0\0\0\0\0\0\x02\0",
+];
+
+/// "In that edition a situation with such a pair is not sound": 2 in every
+/// call, before 3 and 4; by 2024 it is accepted.
+#[test]
+fn pairs_are_refused_by_2012() {
+    for situation in PAIRS {
+        for (plan, due) in [(&b"LB\x04\x02"[..], 0), (b"LC\x04\x02\x01", 2)] {
+            assert_eq!(Plain::situation(plan, situation), due);
+            let event = Plain::event(plan, situation, &[5, 0], &mut [0; EVENT_ROOM]);
+            assert_eq!(told::Event::from(event).refusal, due);
+            let due_event = if due == 0 { 4 } else { 2 };
+            assert_eq!(Plain::event(plan, situation, &[5, 2], &mut [0; EVENT_ROOM]), due_event);
+            assert_eq!(Plain::aspects(plan, situation, &mut [0; 8]), due);
+            assert_eq!(Plain::reading(plan, situation, &[3, 0]), if due == 0 { 1 << 8 } else { 2 });
+            let question = [plan, situation, LISTS[0].0].concat();
+            assert_eq!(Plain::question(&question), due);
+            assert_eq!(told::Key::from(Plain::key(&question, &START, &mut [0; 6])).refusal, due);
+            assert_eq!(told::Run::from(Plain::run(&question, &[0; SLOT])).refusal, due);
+        }
+    }
+}
+
+/// The annulment lifted, AFBLI and AFBLE are refused by 11, 16 and 17, after 4
+/// and 24, and name nothing; in a run too.
+#[test]
+fn exclusions_are_refused_by_2012() {
+    let (by_2024, by_2012) = (&b"LB\x04\x02"[..], &b"LC\x04\x02\x01"[..]);
+    for (pair, due) in PAIRS.into_iter().zip([11, 16, 17, 17, 17]) {
+        let mut situation = *pair;
+        situation[5] = 0;
+        for code in [3, 4] {
+            let mut after = situation;
+            after[5] = code - 2;
+            let mut room = [7; EVENT_ROOM];
+            assert_eq!(Plain::event(by_2012, &situation, &[code, 0], &mut room), due);
+            assert_eq!(Plain::event(by_2012, &situation, &[code, 2], &mut room), 4);
+            assert_eq!(Plain::event(by_2012, &situation, &[code, 0], &mut room[1..]), 24);
+            assert_eq!(room, [7; EVENT_ROOM]);
+            assert_eq!(Plain::event(by_2024, &situation, &[code, 0], &mut room), 21 << 16);
+            assert!(room.starts_with(&after));
+            for (plan, told) in [(by_2012, due << 16 | 1 << 8), (by_2024, 1 << 24)] {
+                let question = [plan, &situation, b"EV\x01", &[code, 0], b"RD\0LN\x02"].concat();
+                assert_eq!(Plain::run(&question, &[1, 1, 0, 0, 0, 0]), told);
+            }
+        }
+    }
+}
+
 /// A candidate's slot runs as its events do one by one, and the readings hold
 /// where each has its value.
 #[test]
 fn runs_are_events_one_by_one() {
     let r = &mut Random::new(3);
     for _ in 0..20_000 {
-        let question = match r.below(3) {
+        let question = match r.below(4) {
             0 => generate::question(r, Search::Any),
             1 => generate::question_in_use(r),
-            _ => generate::question_in_time(r, Search::Any),
+            2 => generate::question_in_time(r, Search::Any),
+            _ => generate::question_of_exclusions(r, Search::Any),
         };
         let bytes = generate::question_bytes(&question);
-        let plan = &question.line().to_record();
+        let plan = &question.line().to_record()[..];
         let mut situation = question.situation().to_record().to_vec();
-        assert!(bytes.starts_with(&[plan, &situation[..]].concat()));
+        assert!(bytes.starts_with(&[plan, &situation].concat()));
         let slot = generate::slot(r, &question, &[]);
         let mut right = told::Run::default();
         for (place, &listed) in (1..).zip(&slot[1..=usize::from(slot[0])]) {
@@ -423,6 +518,13 @@ fn answers_are_those_of_the_vectors_files() {
     let occupied = "5349010102000000000000000000000c0000000000";
     let counting = "534a010102000000000000000000000000000000000102";
     let counted = "534a010102000000000000000000000000000000000101";
+    let by_2012 = "4c43040201";
+    let annulled = "534901000001000000000000000000000000000000";
+    let bilc = "534901000000000000000000010000000000000000";
+    let bslg = "534901000000000000000000000100000000000000";
+    let held = "534901000000000000000000000000000002000000";
+    let pair = "534901000001000000000000000100000000000000";
+    let of_exclusions = format!("{by_2012}{fresh}4556030800030009005244010300014c4e03");
     let question = format!("{plan}{fresh}455602010002015244010200014c4e02");
     let on_occupied = format!("{plan}{occupied}4556010e015244004c4e01");
     let on_counting = format!("{plan}{counting}45560217000e015244010401014c4e04");
@@ -453,6 +555,20 @@ fn answers_are_those_of_the_vectors_files() {
         ("number 1 1500 100 50 0 0 13".into(), "0 00000000000058420200000000".into()),
         (format!("keytext {question}"), "1 2|total 1|".into()),
         (format!("keytext {on_counting}"), "1 1 1 2|1 1 2|1 1 2 1|total 3|".into()),
+        (format!("plan {by_2012}"), "0".into()),
+        (format!("plan {}02", &by_2012[..8]), "20".into()),
+        (format!("sound {by_2012} {annulled}"), "0".into()),
+        (format!("sound {by_2012} {pair}"), "2".into()),
+        (format!("sound {plan} {pair}"), "0".into()),
+        (format!("event {by_2012} {bilc} 0300 96"), "11 0 -".into()),
+        (format!("event {by_2012} {bslg} 0300 96"), "16 0 -".into()),
+        (format!("event {plan} {bslg} 0300 96"), format!("0 0 {pair}")),
+        (format!("event {by_2012} {held} 0400 96"), "17 0 -".into()),
+        (format!("event {by_2012} {annulled} 0600 96"), "8 0 -".into()),
+        (format!("event {by_2012} {annulled} 0a81 96"), "8 0 -".into()),
+        (format!("run {of_exclusions} 020102000000"), "0 2 16 0 0".into()),
+        (format!("run {of_exclusions} 030103020000"), "0 0 0 0 1".into()),
+        (format!("keytext {of_exclusions}"), "1 3 2|2|total 2|".into()),
     ] {
         assert_eq!(answer_to(&case, plain), Some(right), "{case}");
     }

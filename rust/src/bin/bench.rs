@@ -30,8 +30,8 @@ use folvkin_compare::cases::from_hex;
 use folvkin_compare::generate::{self, Search};
 use folvkin_compare::interface::{EVENT_ROOM, Interface, Plain};
 use folvkin_compare::plain::key::{SLOT, START};
-use folvkin_compare::plain::records::{PLAN, SI, plan_record};
-use folvkin_compare::plain::{Line, Parts, Situation};
+use folvkin_compare::plain::records::{LB, SI};
+use folvkin_compare::plain::{Edition, Line, Parts, Plan, Question, Situation};
 use folvkin_compare::random::Random;
 use folvkin_compare::told;
 
@@ -40,6 +40,7 @@ const LARGEST: &str = "4c42100f53490100000000000000000000000000000000000045560c1
 const LARGEST_READ: &str = "4c42100f53490100000000000000000000000000000000000045560c1302130c0300130e1308010113071305130f1304130a13015244040500010401000301000110004c4e05";
 const ANNULLED: &str = "4c42050353490001020000000000000000010008000000000045560c040005000f001301130213031404160009000a02030111005244020300020103014c4e05";
 const SECONDS: &str = "4c420603534a01010200000000000000000000000000000000010245560c170013041404130614060e0110010e0010000101020011015244020500010401004c4e05";
+const OF_2012: &str = "4c4308040153490100000000000000000000000000000000000045560c03000400050006000700080009000a030b0303010a8513065244020300000301004c4e05";
 
 /// Something to measure, with either implementation.
 trait Work {
@@ -232,6 +233,7 @@ impl Bench {
             ("largest, four readings", LARGEST_READ),
             ("annulled, two readings", ANNULLED),
             ("with seconds, two readings", SECONDS),
+            ("of 2012, two readings", OF_2012),
         ] {
             let bytes = from_hex(text).expect("hex");
             let mut whole = WholeKey::new(bytes.clone());
@@ -251,7 +253,7 @@ impl Bench {
         self.line("plan", 65_536, &mut Plans);
         let situations: Vec<_> = (0..4096)
             .map(|_| {
-                let line = generate::line(&mut r);
+                let line = generate::line_of(&mut r, Edition::Of2024);
                 Given::new(&mut r, &line)
             })
             .collect();
@@ -264,14 +266,14 @@ impl Bench {
         self.line("reading", count, &mut Readings(&situations));
         let questions: Vec<_> = (0..512)
             .map(|_| {
-                let question = generate::question(&mut r, Search::Any);
+                let question = question_of_2024(&mut r);
                 (generate::question_bytes(&question), generate::slot(&mut r, &question, &[]))
             })
             .collect();
         self.line("question read", questions.len() * 16, &mut Questions(&questions));
         let damaged: Vec<_> = (0..512)
             .map(|_| {
-                let question = generate::question(&mut r, Search::Any);
+                let question = question_of_2024(&mut r);
                 (generate::damaged(&mut r, &question), [0; SLOT])
             })
             .collect();
@@ -322,8 +324,7 @@ impl Bench {
         ];
         for sections in [2, 4, 8, 12, 16] {
             let mut whole = WholeKey::of(Parts {
-                sections,
-                frontier: sections / 2,
+                plan: Plan::new(Edition::Of2024, sections, sections / 2),
                 situation: Situation::FRESH.to_bytes(),
                 events: &events,
                 readings: &[[1, 1, 0], [1, 129, 0], [4, 0, 0]],
@@ -336,7 +337,7 @@ impl Bench {
         self.head("Aspects by sections", "calls");
         let mut r = Random::new(2);
         for n in [2, 4, 8, 12, 16] {
-            let line = Line::new(n, n / 2).expect("a plan");
+            let line = Line::new(Plan::new(Edition::Of2024, n, n / 2)).expect("a plan");
             let situations: Vec<_> = (0..2048).map(|_| Given::new(&mut r, &line)).collect();
             let count = situations.len() * Given::TIMES;
             self.line(&format!("{n} sections"), count, &mut AllAspects(&situations));
@@ -350,6 +351,11 @@ impl Bench {
             self.line(&format!("from 2^{power}"), marks.len() * 4, &mut Marks(&marks));
         }
     }
+}
+
+fn question_of_2024(r: &mut Random) -> Question {
+    let line = generate::line_of(r, Edition::Of2024);
+    generate::question_on(r, Search::Any, line)
 }
 
 /// A number typed in the unit asked, at least 2^power and less than twice
@@ -427,16 +433,20 @@ impl Work for Plans {
         let mut sum = 0;
         for n in 0..=255 {
             for b in 0..=255 {
-                sum += u64::from(I::plan(black_box(&plan_record(n, b))));
+                sum += u64::from(I::plan(black_box(&[b'L', b'B', n, b])));
             }
         }
         sum
     }
 }
 
+fn plan_of_2024(line: &Line) -> [u8; LB] {
+    *line.to_record().as_array().expect("LB")
+}
+
 /// A situation and what is asked of it.
 struct Given {
-    plan: [u8; PLAN],
+    plan: [u8; LB],
     situation: [u8; SI],
     event: [u8; 2],
     reading: [u8; 2],
@@ -447,7 +457,7 @@ impl Given {
     const TIMES: usize = 4;
 
     fn new(r: &mut Random, line: &Line) -> Given {
-        let plan = line.to_record();
+        let plan = plan_of_2024(line);
         let situation = *generate::sound_or_reached(r, line).to_record().as_array().expect("no mark");
         let event = generate::event(r, line).to_bytes();
         let reading = generate::reading(r, line);
@@ -487,15 +497,15 @@ impl Work for Events<'_> {
 
 /// Events that each go on from the records that the one before wrote.
 struct Walk {
-    plan: [u8; PLAN],
+    plan: [u8; LB],
     events: Vec<[u8; 2]>,
 }
 
 impl Walk {
     fn new(r: &mut Random) -> Walk {
-        let line = Line::new(9, 4).expect("a plan");
+        let line = Line::new(Plan::new(Edition::Of2024, 9, 4)).expect("a plan");
         let events = (0..16_384).map(|_| generate::event(r, &line).to_bytes()).collect();
-        Walk { plan: line.to_record(), events }
+        Walk { plan: plan_of_2024(&line), events }
     }
 }
 

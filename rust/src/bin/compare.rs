@@ -4,9 +4,10 @@
 //!
 //! The cases depend on seed and count alone. `--numbers` runs typed numbers
 //! alone. `--small-line` runs every situation in range of the plan 2, 1
-//! instead, each sound one with every mark and count, and every event, aspect
-//! and reading on all that are sound. `--trace` prints every case before its
-//! call, so that the last line tells which one ended the program.
+//! instead, by both editions, each sound one with every mark and count, and
+//! every event, aspect and reading on all that are sound. `--trace` prints
+//! every case before its call, so that the last line tells which one ended the
+//! program.
 //!
 //! What a later case takes from an earlier one (a situation that an event led
 //! to, a slot to go on after) is what both gave, or the earlier case counts as
@@ -30,9 +31,11 @@ use folvkin_compare::interface::{EVENT_ROOM, Plain};
 use folvkin_compare::lent::Lent;
 use folvkin_compare::lent::Placed;
 use folvkin_compare::plain::key::{SLOT, START};
-use folvkin_compare::plain::records::{PLAN, SI, SJ, plan_record};
+use folvkin_compare::plain::records::{self, LC, SI, SJ, plan_record};
 use folvkin_compare::plain::situation::{LENGTH, SHORT_LENGTH, TEN_SECONDS};
-use folvkin_compare::plain::{Event, Line, Question, Situation, aspects, events, readings};
+use folvkin_compare::plain::{
+    Edition, Event, Line, Parts, Plan, Question, Situation, aspects, events, readings,
+};
 use folvkin_compare::random::Random;
 use folvkin_compare::told;
 
@@ -173,11 +176,7 @@ struct Met {
 impl Met {
     /// The room is what it is after the call.
     fn count(&mut self, case: &Case, returned: u64, room: &[u8]) {
-        let before = match case.kind {
-            Kind::Plan | Kind::Mark => return,
-            Kind::Question | Kind::Key | Kind::Run => case.read[0].get(PLAN..PLAN + SJ).unwrap_or(&[]),
-            Kind::Situation | Kind::Event | Kind::Aspects | Kind::Reading => case.read[1],
-        };
+        let before = situation_of(case);
         let refusal = returned as u8;
         if before.starts_with(b"SJ") {
             self.accepted += u64::from(refusal == 0);
@@ -226,6 +225,94 @@ impl fmt::Display for Met {
         writeln!(f, "refused with both zero {}", self.both_zero)?;
         write!(f, "sections off red one way {}, ", self.clear_one_way)?;
         write!(f, "both ways {}", self.clear_both_ways)
+    }
+}
+
+/// What is counted of the editions: cases with a plan of either, records LC
+/// with another last byte, situations that are sound by 2024 alone, and what
+/// the 2012 rules alone refuse.
+#[derive(Default)]
+struct Editions {
+    of_2024: u64,
+    of_2012: u64,
+    last_bytes: u64,
+    not_sound: u64,
+    events: Refusals,
+    /// The events at which runs stop.
+    stops: Refusals,
+}
+
+impl Editions {
+    fn count(&mut self, case: &Case, returned: u64) {
+        let plan = match records::plan(&mut { case.read[0] }) {
+            Ok(plan) => plan,
+            Err(_) => {
+                let is_lc = case.read[0].starts_with(b"LC") && case.read[0].len() >= LC;
+                self.last_bytes += u64::from(is_lc);
+                return;
+            }
+        };
+        match plan.edition {
+            Edition::Of2024 => self.of_2024 += 1,
+            Edition::Of2012 => self.of_2012 += 1,
+        }
+        match (case.kind, returned as u8) {
+            (_, 2) => self.not_sound += u64::from(is_sound_by_2024(plan, situation_of(case))),
+            (Kind::Event, refusal) if is_by_2012(case.read[2], refusal) => self.events.add(refusal, 0),
+            (Kind::Run, 0) => {
+                let told = told::Run::from(returned);
+                if told.event_refusal != 0 && is_by_2012(&stopped_at(case, told.place), told.event_refusal) {
+                    self.stops.add(told.event_refusal, 0);
+                }
+            }
+            _ => {}
+        }
+    }
+}
+
+impl fmt::Display for Editions {
+    fn fmt(&self, f: &mut fmt::Formatter) -> fmt::Result {
+        write!(f, "cases by 2024 {}, by 2012 {}; ", self.of_2024, self.of_2012)?;
+        writeln!(f, "LC with another last byte {}", self.last_bytes)?;
+        write!(f, "by the 2012 rules alone: not sound {}; ", self.not_sound)?;
+        write!(f, "event refused {}{}; ", self.events.all(), self.events)?;
+        write!(f, "run stopped {}{}", self.stops.all(), self.stops)
+    }
+}
+
+/// Whether only the 2012 rules refuse an event so.
+fn is_by_2012(event: &[u8], refusal: u8) -> bool {
+    let code = event.first().copied().unwrap_or(0);
+    match code {
+        events::AFBLI_ORDER | events::AFBLE_ORDER => matches!(refusal, 11 | 16 | 17),
+        events::BILC | events::BSLB => refusal == 8,
+        _ => false,
+    }
+}
+
+/// The event at a place of the slot that a case runs.
+fn stopped_at(case: &Case, place: u8) -> [u8; 2] {
+    let parts = Parts::split(case.read[0]).expect("a question that is run");
+    parts.events[usize::from(case.read[1][usize::from(place)]) - 1]
+}
+
+/// Whether the situation of a plan is sound by the rules of 2024.
+fn is_sound_by_2024(plan: Plan, mut situation: &[u8]) -> bool {
+    let Ok(line) = Line::new(plan) else { return false };
+    let line = line.under(Edition::Of2024);
+    records::situation(&mut situation).is_ok_and(|body| Situation::read(&line, &body).is_ok())
+}
+
+/// What stands in the place of the situation's record, with the bytes that
+/// follow it in a question; nothing where the case has none.
+fn situation_of<'a>(case: &Case<'a>) -> &'a [u8] {
+    match case.kind {
+        Kind::Plan | Kind::Mark => &[],
+        Kind::Question | Kind::Key | Kind::Run => {
+            let rest = &mut { case.read[0] };
+            if records::plan(rest).is_ok() { &rest[..rest.len().min(SJ)] } else { &[] }
+        }
+        Kind::Situation | Kind::Event | Kind::Aspects | Kind::Reading => case.read[1],
     }
 }
 
@@ -329,6 +416,7 @@ struct Comparison {
     cases: u64,
     tallies: [Tally; Kind::ALL.len()],
     met: Met,
+    editions: Editions,
     library: Caller,
     /// What the plain implementation's last call left in its room.
     plain: Vec<u8>,
@@ -371,6 +459,7 @@ impl Comparison {
             cases: 0,
             tallies: Default::default(),
             met: Met::default(),
+            editions: Editions::default(),
             library: Caller::new(),
             plain: Vec::with_capacity(LARGEST_ROOM),
             noise,
@@ -401,6 +490,7 @@ impl Comparison {
         self.cases += 1;
         self.tallies[case.kind as usize].count(case.kind, returned);
         self.met.count(&case, returned, &self.plain);
+        self.editions.count(&case, returned);
         self.call_library(&case, places, returned);
         returned
     }
@@ -473,6 +563,7 @@ impl Comparison {
             by_events.refusals.times_with(13, 0),
             by_runs.stops.times_with(13, 0)
         );
+        println!("{}", self.editions);
         println!("{seconds:.1} s");
         println!("{} cases, {} differences", self.cases, self.differences());
     }
@@ -486,7 +577,7 @@ impl Comparison {
     fn generated(&mut self) {
         self.sweeps();
         while self.cases < self.limit {
-            match self.random.below(118) {
+            match self.random.below(123) {
                 0 => self.plan(),
                 1..38 => self.situation(),
                 38..44 => self.walk_by_events(),
@@ -495,7 +586,8 @@ impl Comparison {
                 75..100 => (0..6).for_each(|_| self.number()),
                 100..108 => self.line_in_use(),
                 108..114 => self.marked_line(),
-                _ => self.stray_occupation(),
+                114..118 => self.stray_occupation(),
+                _ => self.exclusions(),
             }
             if self.random.once_in(3_000) {
                 self.damage_sweep();
@@ -506,18 +598,25 @@ impl Comparison {
         }
     }
 
-    /// Every plan, and one event with every plan; every two letters; on a
-    /// situation without the mark and on one on which the count runs every
-    /// event and every reading; every mark and count.
     fn sweeps(&mut self) {
-        let line = generate::line(&mut self.random);
+        for edition in Edition::ALL {
+            self.sweeps_of(edition);
+        }
+        self.last_bytes();
+    }
+
+    /// Of an edition every plan, and one event with every plan; every two
+    /// letters; on a situation without the mark and on one on which the count
+    /// runs every event and every reading; every mark and count.
+    fn sweeps_of(&mut self, edition: Edition) {
+        let line = generate::line_of(&mut self.random, edition);
         let plan = line.to_record();
         let unmarked = generate::reached(&mut self.random, &line);
         let counting = generate::counting(&mut self.random, &line);
         let room = self.room(EVENT_ROOM);
         for first in 0..=255 {
             for second in 0..=255 {
-                let any_plan = plan_record(first, second);
+                let any_plan = plan_record(Plan::new(edition, first, second));
                 self.check(Case::plan(&any_plan));
                 self.check(Case::event(&any_plan, &unmarked.to_record(), &[events::DAFBL, 0], &room));
                 self.check(Case::plan(&with_letters(&plan, [first, second])));
@@ -536,6 +635,29 @@ impl Comparison {
             self.event_rooms(&plan, &situation);
         }
         self.marks_and_counts(&plan, counting);
+    }
+
+    /// LC with every last byte, through all calls that take a plan; the same
+    /// on a plan that is none.
+    fn last_bytes(&mut self) {
+        let question = generate::question_of_exclusions(&mut self.random, Search::Small);
+        let situation = question.situation().to_record();
+        let plan = question.line().under(Edition::Of2012).to_record();
+        let room = self.room(EVENT_ROOM);
+        for sections in [plan[2], 0] {
+            for last in 0..=255 {
+                let plan = [b'L', b'C', sections, plan[3], last];
+                self.check(Case::plan(&plan));
+                self.check(Case::situation(&plan, &situation));
+                self.check(Case::event(&plan, &situation, &generate::SECOND.to_bytes(), &room));
+                self.check(Case::aspects(&plan, &situation, &room));
+                self.check(Case::reading(&plan, &situation, &[readings::LINE, 0]));
+                let bytes = generate::with_plan(&question, &plan);
+                self.check(Case::question(&bytes));
+                self.check(Case::key(&bytes, &START, &room));
+                self.check(Case::run(&bytes, &[0; SLOT]));
+            }
+        }
     }
 
     /// A second on every mark and count, with no section occupied, with one,
@@ -646,16 +768,24 @@ impl Comparison {
         let r = &mut self.random;
         let line = generate::line(r);
         let plan = line.to_record();
-        let from = match r.below(4) {
+        let from = match r.below(5) {
             0 | 1 => Situation::FRESH,
             2 => generate::sound(r, &line),
-            _ => generate::marked(r, &line),
+            3 => generate::marked(r, &line),
+            _ => {
+                let paired = generate::paired(r, &line);
+                generate::unpaired(r, &line, paired)
+            }
         };
         let mut situation = from.to_record().to_vec();
         let aspects_room = self.room(2 * usize::from(line.sections()));
         for _ in 0..12 {
             let r = &mut self.random;
-            let event = if r.once_in(6) { generate::SECOND } else { generate::event(r, &line) };
+            let event = match r.below(6) {
+                0 => generate::SECOND,
+                1 | 2 => generate::exclusive_event(r, &line),
+                _ => generate::event(r, &line),
+            };
             self.happen(&plan, &mut situation, event);
             self.check(Case::aspects(&plan, &situation, &aspects_room));
             self.check(Case::situation(&plan, &situation));
@@ -738,6 +868,56 @@ impl Comparison {
         }
     }
 
+    /// Orders that the 2012 rules exclude, by both editions: on a situation that
+    /// may have a pair and on one that has none each of them by both stations
+    /// and some signals held; of a question parts of its key and slots that end
+    /// in each of the events listed.
+    fn exclusions(&mut self) {
+        let r = &mut self.random;
+        let line = generate::line(r);
+        let paired = generate::paired(r, &line);
+        let unpaired = generate::unpaired(r, &line, paired);
+        let signals = [0; 4].map(|_| generate::block_signal(r, &line));
+        for edition in Edition::ALL {
+            let plan = line.under(edition).to_record();
+            for situation in [paired, unpaired] {
+                self.exclusive_orders(&plan, &situation.to_record(), &signals);
+            }
+        }
+        let question = generate::question_of_exclusions(&mut self.random, Search::Small);
+        let by_both = Edition::ALL.map(|edition| generate::question_under(&question, edition));
+        for place in 1..=question.events().len() {
+            let slot = generate::slot_to(&mut self.random, &question, place);
+            let length = self.room_length();
+            let room = self.room(length);
+            for bytes in &by_both {
+                self.check(Case::run(bytes, &slot));
+                self.check(Case::key(bytes, &slot, &room));
+            }
+        }
+        let room = self.room(64 * SLOT);
+        for bytes in &by_both {
+            self.check(Case::question(bytes));
+            self.check(Case::key(bytes, &START, &room));
+        }
+    }
+
+    fn exclusive_orders(&mut self, plan: &[u8], situation: &[u8], signals: &[u8]) {
+        self.check(Case::situation(plan, situation));
+        let room = self.room(EVENT_ROOM);
+        for code in generate::EXCLUSIVE {
+            for station in 0..2 {
+                self.check(Case::event(plan, situation, &[code, station], &room));
+            }
+        }
+        for &signal in signals {
+            self.check(Case::event(plan, situation, &[events::BSLB, signal], &room));
+        }
+        self.check(Case::aspects(plan, situation, &room));
+        let reading = self.random.pick(&[[readings::ANNULMENT, 0], [readings::ANNULMENT, 1]]);
+        self.check(Case::reading(plan, situation, &reading));
+    }
+
     /// Floats of every exponent and sign, on many questions; then numbers as
     /// they come among other cases.
     fn numbers(&mut self) {
@@ -778,10 +958,15 @@ impl Comparison {
         }
     }
 
-    /// An accepted question, with seconds now and then.
+    /// An accepted question, now and then with seconds or with orders that the
+    /// 2012 rules exclude.
     fn any_question(&mut self, search: Search) -> Question {
         let r = &mut self.random;
-        if r.once_in(4) { generate::question_in_time(r, search) } else { generate::question(r, search) }
+        match r.below(8) {
+            0 | 1 => generate::question_in_time(r, search),
+            2 => generate::question_of_exclusions(r, search),
+            _ => generate::question(r, search),
+        }
     }
 
     /// An accepted question: itself, parts of its key, runs.
@@ -863,6 +1048,11 @@ impl Comparison {
                     let situation = generate::lent_situation(r, question.line());
                     generate::with_situation(&question, &situation)
                 }
+                8 | 9 => generate::question_under(&question, question.line().edition().other()),
+                10..13 => {
+                    let (plan, _) = generate::lent_plan_of(r, *question.line());
+                    generate::with_plan(&question, &plan)
+                }
                 _ => generate::damaged(r, &question),
             };
             self.check(Case::question(&bytes));
@@ -913,11 +1103,17 @@ impl Comparison {
         self.check(Case::question(&twice));
     }
 
-    /// Every situation in range of the plan 2, 1, and with every mark and count
-    /// where it is sound; on each sound one every event, all aspects and every
-    /// reading.
     fn small_line(&mut self) {
-        let line = Line::new(2, 1).expect("a plan");
+        for edition in Edition::ALL {
+            self.small_line_of(edition);
+        }
+    }
+
+    /// Every situation in range of the plan 2, 1 of an edition, and with every
+    /// mark and count where it is sound; on each sound one every event, all
+    /// aspects and every reading.
+    fn small_line_of(&mut self, edition: Edition) {
+        let line = Line::new(Plan::new(edition, 2, 1)).expect("a plan");
         let plan = line.to_record();
         let asked = Asked::all(&line);
         // How many values each byte of a situation has.

@@ -14,7 +14,7 @@
 //! A description is made of parts with `;` between them (all but `plan` and
 //! `events` may be left out):
 //!
-//!     plan 4 2
+//!     plan 4 2 2012
 //!     situation link=1 orientation=1,2 annulment=0,0 exit=0,0 entry=0,0
 //!         pending=0 bilc=0 bslg=0 reminder=0 occupied=1+3 held=2+131
 //!         mark=1 count=0
@@ -24,6 +24,7 @@
 //!         line = 0
 //!     length 4
 //!
+//! The edition of the plan is 2012 or 2024, and 2024 where nothing is said.
 //! `situation` starts from the fresh one. A question that is not accepted is
 //! written too; its refusal goes to standard error.
 
@@ -35,7 +36,7 @@ use folvkin_compare::cases::{from_hex, hex};
 use folvkin_compare::generate;
 use folvkin_compare::plain::keytext::{key_text, whole_key};
 use folvkin_compare::plain::refusal::number;
-use folvkin_compare::plain::{Parts, Question, Situation};
+use folvkin_compare::plain::{Edition, Parts, Plan, Question, Situation};
 use folvkin_compare::random::Random;
 
 /// The names of the events, in the order of their codes from 1.
@@ -112,7 +113,7 @@ fn written(words: &[&str]) -> Result<Vec<u8>, String> {
 }
 
 struct Description {
-    plan: Option<(u8, u8)>,
+    plan: Option<Plan>,
     situation: Situation,
     events: Vec<[u8; 2]>,
     readings: Vec<[u8; 3]>,
@@ -137,11 +138,7 @@ impl Description {
 
     fn read_part(&mut self, name: &str, rest: &str) -> Result<(), String> {
         match name {
-            "plan" => {
-                let numbers: Vec<u8> = rest.split_whitespace().map(number_of).collect::<Result<_, _>>()?;
-                let [n, b] = numbers[..] else { return Err("a plan has two numbers".into()) };
-                self.plan = Some((n, b));
-            }
+            "plan" => self.plan = Some(plan_of(rest)?),
             "situation" => {
                 rest.split_whitespace().try_for_each(|field| set_field(&mut self.situation, field))?;
             }
@@ -164,10 +161,8 @@ impl Description {
     }
 
     fn to_bytes(&self) -> Result<Vec<u8>, String> {
-        let (sections, frontier) = self.plan.ok_or("a description has a plan")?;
         let parts = Parts {
-            sections,
-            frontier,
+            plan: self.plan.ok_or("a description has a plan")?,
             situation: self.situation.to_bytes(),
             events: &self.events,
             readings: &self.readings,
@@ -177,6 +172,17 @@ impl Description {
         parts.write_unchecked(&mut bytes);
         Ok(bytes)
     }
+}
+
+/// Two numbers and the edition, 2024 if nothing is said.
+fn plan_of(text: &str) -> Result<Plan, String> {
+    let words: Vec<&str> = text.split_whitespace().collect();
+    let (edition, n, b) = match words[..] {
+        [n, b] | [n, b, "2024"] => (Edition::Of2024, n, b),
+        [n, b, "2012"] => (Edition::Of2012, n, b),
+        _ => return Err("a plan has two numbers, and 2012 or 2024 after them".into()),
+    };
+    Ok(Plan::new(edition, number_of(n)?, number_of(b)?))
 }
 
 /// A name of the list, or its number from 1, and an argument, 0 if there is
@@ -256,8 +262,12 @@ fn description(parts: &Parts) -> String {
     let members =
         |set: u16, added: u8| (1..=16).filter(move |k| set >> (k - 1) & 1 == 1).map(move |k| k + added);
     let sum = |members: Vec<u8>| members.iter().map(u8::to_string).collect::<Vec<_>>().join("+");
-    let mut text =
-        format!("plan {} {}; situation link={}", parts.sections, parts.frontier, parts.situation[0]);
+    let Plan { edition, sections, frontier } = parts.plan;
+    let edition = match edition {
+        Edition::Of2024 => "",
+        Edition::Of2012 => " 2012",
+    };
+    let mut text = format!("plan {sections} {frontier}{edition}; situation link={}", parts.situation[0]);
     let s = Situation::from_bytes(&parts.situation);
     for (name, [a, b]) in
         [("orientation", s.orientation), ("annulment", s.annulment), ("exit", s.exit), ("entry", s.entry)]
@@ -329,16 +339,9 @@ fn search(seed: u64, tries: u64) {
         events.push(other_event(&mut r, &events));
     }
     let paper = |start: &Situation, events: &[[u8; 2]], readings: &[[u8; 3]], length: u8| {
-        Parts {
-            sections: line.sections(),
-            frontier: line.frontier(),
-            situation: start.to_bytes(),
-            events,
-            readings,
-            length,
-        }
-        .accept()
-        .expect("a paper in range")
+        Parts { plan: line.plan(), situation: start.to_bytes(), events, readings, length }
+            .accept()
+            .expect("a paper in range")
     };
     let size = |question: &Question| whole_key(question).len() / 6;
     let mut best = size(&paper(&start, &events, &[], 4));

@@ -71,8 +71,8 @@ impl Situation {
         match event.code {
             SOBB => self.ask_orientation(own),
             COBB => self.grant_orientation(own),
-            AFBLI_ORDER => self.annul(own, AFBLI),
-            AFBLE_ORDER => self.annul(own, AFBLE),
+            AFBLI_ORDER => self.annul(line, own, AFBLI),
+            AFBLE_ORDER => self.annul(line, own, AFBLE),
             DAFBL => {
                 refuse_if(self.annulment[own] == NONE, Refusal::AlreadySo)?;
                 self.annulment[own] = NONE;
@@ -81,6 +81,7 @@ impl Situation {
             BILC => {
                 refuse_if(self.bilc >> own & 1 == 1, Refusal::AlreadySo)?;
                 refuse_if(self.exit[own] != 0, Refusal::ExitRoute)?;
+                refuse_if(self.excludes(line, own), Refusal::Annulled)?;
                 self.bilc |= 1 << own;
                 Ok(())
             }
@@ -93,8 +94,12 @@ impl Situation {
             }
             BSLG_RELEASE => clear(&mut self.bslg, own),
             BSLB => {
+                // Own is the station whose area the signal's section is in.
+                let own = line.owner(event.argument & !TOWARDS_A);
+                let excluded = self.excludes(line, own);
                 let (held, signal) = self.held(event.argument);
                 refuse_if(*held & signal != 0, Refusal::AlreadySo)?;
+                refuse_if(excluded, Refusal::Annulled)?;
                 *held |= signal;
                 Ok(())
             }
@@ -211,11 +216,15 @@ impl Situation {
         self.pending = 0;
     }
 
-    fn annul(&mut self, own: usize, annulment: u8) -> Applied {
+    fn annul(&mut self, line: &Line, own: usize, annulment: u8) -> Applied {
         refuse_if(self.annulment[own] != NONE, Refusal::Annulled)?;
         refuse_if(self.pending == asked_by(own), Refusal::Pending)?;
         refuse_if(self.exit[own] != 0, Refusal::ExitRoute)?;
         refuse_if(annulment == AFBLE && self.entry[own] != 0, Refusal::EntryRoute)?;
+        // "After all checks in 01."
+        if let Some(excluded) = self.excluded_by(line, own) {
+            return Err(excluded);
+        }
         self.annulment[own] = annulment;
         self.orientation[own] = NONE;
         if self.link == 1 {

@@ -1,4 +1,4 @@
-//! Document 01 with requests 01 and 02 of document 02, written from the
+//! Document 01 with requests 01, 02 and 05 of document 02, written from the
 //! documents alone. Codes are bytes, sets of sections are `u16` with bit k-1
 //! for section k, nothing allocates except the key's text.
 
@@ -17,7 +17,7 @@ pub mod situation;
 
 pub use aspects::Aspects;
 pub use events::Event;
-pub use line::Line;
+pub use line::{Edition, Line, Plan};
 pub use question::{Parts, Question};
 pub use readings::Reading;
 pub use refusal::{Refusal, Refused};

@@ -1,6 +1,6 @@
 //! A question: five records, each after its two letters, in one byte form.
 
-use super::{Event, Line, Reading, Refusal, Situation, records, situation};
+use super::{Event, Line, Plan, Reading, Refusal, Situation, records, situation};
 
 pub const MOST_EVENTS: usize = 12;
 pub const MOST_READINGS: usize = 6;
@@ -9,8 +9,7 @@ pub const MOST_LENGTH: u8 = 5;
 /// A question as it stands in its bytes, well formed and no more.
 #[derive(Clone, Copy, Debug)]
 pub struct Parts<'a> {
-    pub sections: u8,
-    pub frontier: u8,
+    pub plan: Plan,
     pub situation: [u8; situation::LENGTH],
     pub events: &'a [[u8; 2]],
     pub readings: &'a [[u8; 3]],
@@ -46,11 +45,11 @@ fn lists_twice(events: &[[u8; 2]]) -> bool {
 
 impl<'a> Parts<'a> {
     /// 20: "a wrong mark, bytes missing or left over, an EV or RD count out of
-    /// range".
+    /// range", SJ with both zero, another last byte in LC.
     #[inline]
     pub fn split(bytes: &'a [u8]) -> Result<Parts<'a>, Refusal> {
         let rest = &mut { bytes };
-        let &[sections, frontier] = records::plan(rest)?;
+        let plan = records::plan(rest)?;
         let situation = records::situation(rest)?;
         records::letters(rest, b"EV")?;
         let &[count] = records::take(rest)?;
@@ -67,7 +66,7 @@ impl<'a> Parts<'a> {
         records::letters(rest, b"LN")?;
         let &[length] = records::take(rest)?;
         records::end(rest)?;
-        Ok(Parts { sections, frontier, situation, events, readings, length })
+        Ok(Parts { plan, situation, events, readings, length })
     }
 
     /// The question, or its refusal in the order 20 (counts), 1, 2, 3, 4, 21.
@@ -76,7 +75,7 @@ impl<'a> Parts<'a> {
         if !(1..=MOST_EVENTS).contains(&self.events.len()) || self.readings.len() > MOST_READINGS {
             return Err(Refusal::Form);
         }
-        let line = Line::new(self.sections, self.frontier)?;
+        let line = Line::new(self.plan)?;
         let situation = Situation::read(&line, &self.situation)?;
         let mut events = [Event { code: 0, argument: 0 }; MOST_EVENTS];
         for (event, &[code, argument]) in events.iter_mut().zip(self.events) {
@@ -117,8 +116,9 @@ impl<'a> Parts<'a> {
 
     /// How many bytes the question takes.
     pub fn byte_length(&self) -> usize {
+        let plan = records::plan_length(self.plan.edition);
         let situation = records::situation_length(&self.situation);
-        records::PLAN + situation + 3 + 2 * self.events.len() + 3 + 3 * self.readings.len() + 3
+        plan + situation + 3 + 2 * self.events.len() + 3 + 3 * self.readings.len() + 3
     }
 
     /// Writes the byte form of any parts, accepted or not, into just enough
@@ -129,7 +129,7 @@ impl<'a> Parts<'a> {
             room[at..at + bytes.len()].copy_from_slice(bytes);
             at += bytes.len();
         };
-        put(&records::plan_record(self.sections, self.frontier));
+        put(&records::plan_record(self.plan));
         put(&records::situation_record(&self.situation));
         put(b"EV");
         put(&[self.events.len() as u8]);
@@ -159,8 +159,7 @@ impl Question {
             *bytes = [reading.kind, reading.argument, reading.value];
         }
         Parts {
-            sections: self.line.sections(),
-            frontier: self.line.frontier(),
+            plan: self.line.plan(),
             situation: self.situation.to_bytes(),
             events: &events[..self.event_count],
             readings: &readings[..self.reading_count],

@@ -6,10 +6,16 @@
 use std::ops::Deref;
 
 use super::situation::{LENGTH, SHORT_LENGTH};
-use super::{Line, Refusal, Situation};
+use super::{Edition, Line, Plan, Refusal, Situation};
 
 /// The length of record LB: its letters, n, b.
-pub const PLAN: usize = 4;
+pub const LB: usize = 4;
+
+/// The length of record LC: "LB with one byte more".
+pub const LC: usize = LB + 1;
+
+/// That byte: "always 1".
+const LAST_OF_LC: u8 = 1;
 
 /// The length of record SI: its letters and 19 bytes.
 pub const SI: usize = 2 + SHORT_LENGTH;
@@ -45,11 +51,24 @@ pub fn end(bytes: &[u8]) -> Result<(), Refusal> {
     if bytes.is_empty() { Ok(()) } else { Err(Refusal::Form) }
 }
 
-/// "LB, n, b": n and b, whatever they are.
+/// "LB, n, b", or LC: n and b, whatever they are, but "20 for another last byte
+/// in LC".
 #[inline]
-pub fn plan<'a>(bytes: &mut &'a [u8]) -> Result<&'a [u8; 2], Refusal> {
-    letters(bytes, b"LB")?;
-    take(bytes)
+pub fn plan(bytes: &mut &[u8]) -> Result<Plan, Refusal> {
+    match take::<2>(bytes)? {
+        b"LB" => {
+            let &[sections, frontier] = take(bytes)?;
+            Ok(Plan::new(Edition::Of2024, sections, frontier))
+        }
+        b"LC" => {
+            let &[sections, frontier, last] = take(bytes)?;
+            if last != LAST_OF_LC {
+                return Err(Refusal::Form);
+            }
+            Ok(Plan::new(Edition::Of2012, sections, frontier))
+        }
+        _ => Err(Refusal::Form),
+    }
 }
 
 /// "SI, 19 bytes", or "SJ is SI with the mark and the count added": the
@@ -93,19 +112,20 @@ pub fn alone<'a, T>(
     Ok(read)
 }
 
-#[inline]
-pub fn plan_record(sections: u8, frontier: u8) -> [u8; PLAN] {
-    [b'L', b'B', sections, frontier]
-}
-
-/// The record of a situation, SI or SJ.
+/// A record that may have fewer bytes than the longest of its kind.
 #[derive(Clone, Copy, Debug, PartialEq, Eq)]
-pub struct SituationRecord {
-    bytes: [u8; SJ],
+pub struct Record<const MOST: usize> {
+    bytes: [u8; MOST],
     length: usize,
 }
 
-impl Deref for SituationRecord {
+/// The record of a plan, LB or LC.
+pub type PlanRecord = Record<LC>;
+
+/// The record of a situation, SI or SJ.
+pub type SituationRecord = Record<SJ>;
+
+impl<const MOST: usize> Deref for Record<MOST> {
     type Target = [u8];
 
     #[inline]
@@ -114,11 +134,30 @@ impl Deref for SituationRecord {
     }
 }
 
+/// How long the record of a plan is.
+#[inline]
+pub fn plan_length(edition: Edition) -> usize {
+    match edition {
+        Edition::Of2024 => LB,
+        Edition::Of2012 => LC,
+    }
+}
+
+#[inline]
+pub fn plan_record(plan: Plan) -> PlanRecord {
+    let Plan { edition, sections, frontier } = plan;
+    let (letter, last) = match edition {
+        Edition::Of2024 => (b'B', 0),
+        Edition::Of2012 => (b'C', LAST_OF_LC),
+    };
+    Record { bytes: [b'L', letter, sections, frontier, last], length: plan_length(edition) }
+}
+
 #[inline]
 pub fn situation_record(body: &[u8; LENGTH]) -> SituationRecord {
     let mut bytes = [0; SJ];
     let length = write_situation(body, &mut bytes);
-    SituationRecord { bytes, length }
+    Record { bytes, length }
 }
 
 /// Writes the record of a situation: its length. Bytes after it keep their
@@ -146,8 +185,8 @@ pub fn long_record(body: &[u8; LENGTH]) -> [u8; SJ] {
 
 impl Line {
     #[inline]
-    pub fn to_record(&self) -> [u8; PLAN] {
-        plan_record(self.sections(), self.frontier())
+    pub fn to_record(&self) -> PlanRecord {
+        plan_record(self.plan())
     }
 }
 

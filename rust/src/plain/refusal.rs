@@ -34,7 +34,12 @@ pub enum Refusal {
     /// The own station is in, "a free track with an exit route at the other
     /// station".
     OtherExitRoute = 15,
-    /// A wrong mark, bytes missing or left over, a count out of range.
+    /// BSLG is set, which the 2012 rules exclude.
+    Bslg = 16,
+    /// A signal of the own area is held, which the 2012 rules exclude.
+    Bslb = 17,
+    /// A wrong mark, bytes missing or left over, a count out of range, another
+    /// last byte in LC.
     Form = 20,
     /// LN above 5, an event listed twice, a reading out of range.
     Listing = 21,

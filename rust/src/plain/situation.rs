@@ -1,7 +1,7 @@
 //! The situation, its bytes and when it is sound.
 
 use super::line::{A, B};
-use super::{Line, Refusal};
+use super::{Edition, Line, Refusal};
 
 pub const NONE: u8 = 0;
 /// Orientations and area directions.
@@ -182,7 +182,36 @@ impl Situation {
         // count above 0."
         let count = self.count == 0 || (self.mark == 1 && self.occupied == 0);
         let mark = self.mark == 0 || (!self.has_exit_route() && (self.occupied != 0 || self.count > 0));
-        orientations && station(A) && station(B) && pending && count && mark
+        // "In that edition a situation with such a pair is not sound."
+        let has_pair = |s: usize| self.excludes(line, s) && self.excluded_by(line, s).is_some();
+        orientations && station(A) && station(B) && pending && count && mark && !has_pair(A) && !has_pair(B)
+    }
+
+    /// "Under 2012, AFBLI and AFBLE exclude BILC, BSLG and any BSLB in the
+    /// station's own area": which of these is there, "11 BILC, 16 BSLG, 17
+    /// BSLB, in that order".
+    #[inline(always)]
+    pub fn excluded_by(&self, line: &Line, station: usize) -> Option<Refusal> {
+        if line.edition() != Edition::Of2012 {
+            return None;
+        }
+        let held = self.held_towards_b | self.held_towards_a;
+        if self.bilc >> station & 1 == 1 {
+            Some(Refusal::Bilc)
+        } else if self.bslg >> station & 1 == 1 {
+            Some(Refusal::Bslg)
+        } else if held & line.area(station) != 0 {
+            Some(Refusal::Bslb)
+        } else {
+            None
+        }
+    }
+
+    /// "Whichever comes first": under 2012 an annulled station excludes them
+    /// in its turn.
+    #[inline(always)]
+    pub fn excludes(&self, line: &Line, station: usize) -> bool {
+        line.edition() == Edition::Of2012 && self.annulment[station] != NONE
     }
 
     /// "The line is free when link is up, no section is occupied and neither
