@@ -1,11 +1,11 @@
 #!/usr/bin/env python3
 """question-cases.py PAPER..: prints cases `question HEX<TAB>REFUSAL` for papers near accepted ones, each given as a file of its bytes: every
 single-byte change to a dozen telling values, every cut, and every lengthening by one byte. question-cases.py --verify FILE holds the judgment to
-the `question` cases of FILE. The judgment is written from document 01 and requests 01 and 02 of document 02 alone."""
+the `question` cases of FILE. The judgment is written from document 01 and requests 01, 02 and 05 of document 02 alone."""
 import sys
 
-MARKS = [(b"LB",), (b"SI", b"SJ"), (b"EV",), (b"RD",), (b"LN",)]
-SIZES = {b"LB": 2, b"SI": 19, b"SJ": 21, b"LN": 1}
+MARKS = [(b"LB", b"LC"), (b"SI", b"SJ"), (b"EV",), (b"RD",), (b"LN",)]
+SIZES = {b"LB": 2, b"LC": 3, b"SI": 19, b"SJ": 21, b"LN": 1}
 TELLING = [0, 1, 2, 3, 4, 5, 6, 7, 10, 11, 12, 13, 23, 24, 127, 128, 129, 255]
 
 
@@ -25,6 +25,8 @@ def parts(paper):
         else:
             size = SIZES[mark]
         if at + size > len(paper):
+            return None
+        if mark == b"LC" and paper[at + 2] != 1:
             return None
         if mark == b"SJ" and paper[at + 19:at + 21] == b"\0\0":
             return None
@@ -51,7 +53,12 @@ def watched(mark, count, occupied, exits):
     return not (mark and (any(exits) or not (occupied or count)))
 
 
-def sound(n, si):
+def pair(area, annulment, bilc, bslg, held):
+    """Annulment and what 2012 excludes beside it, at one station; area and held as bits, section 1 the lowest."""
+    return annulment and (bilc or bslg or held & area)
+
+
+def sound(n, b, old, si):
     link, orient, annul, exits, pending = si[0], si[1:3], si[3:5], si[5:7], si[9]
     if link > 1 or max(orient) > 2 or max(annul) > 2 or max(exits) > 2 or max(si[7:9]) > 1 or pending > 2 or max(si[10:13]) > 3:
         return False
@@ -65,6 +72,9 @@ def sound(n, si):
     if not link and orient[0] == orient[1] != 0:
         return False
     if not all(station(orient[s], annul[s], exits[s], si[10] >> s & 1) for s in (0, 1)):
+        return False
+    areas = ((1 << b) - 1, (1 << n) - (1 << b))
+    if old and any(pair(areas[s], annul[s], si[10] >> s & 1, si[11] >> s & 1, held_b | held_a) for s in (0, 1)):
         return False
     if pending:
         asker = pending - 1
@@ -96,10 +106,11 @@ def refusal(paper):
     bodies = parts(paper)
     if bodies is None:
         return 20
-    (n, b), si, ev, rd, ln = bodies
+    plan, si, ev, rd, ln = bodies
+    n, b, old = plan[0], plan[1], len(plan) == 3
     if not (2 <= n <= 16 and 1 <= b < n):
         return 1
-    if not sound(n, si):
+    if not sound(n, b, old, si):
         return 2
     events = [(ev[at], ev[at + 1]) for at in range(1, len(ev), 2)]
     for code, argument in events:

@@ -1,7 +1,7 @@
 -- Each signal is off red in some sound situation: one station out, with an exit route, the other in, and the line empty. Assumes nothing.
 use Prim.Native.Nat.{ℕ, zero, suc}
 use mathlib.Core.Bool.{Bool, true, false, not}
-use mathlib.Core.Path.{sym, subst}
+use mathlib.Core.Path.{refl, sym, subst}
 use lib.Dec.{T}
 use Rattle.words.specs.Words.{_and_, _or_, if_then_else_}
 use Rattle.words.proofs.Tests.{if-case, holds-is}
@@ -15,6 +15,7 @@ use Rattle.block.specs.declared.line.Direction.{Direction}
 use Rattle.block.specs.declared.line.Direction.the-variants.{TowardsA, TowardsB}
 use Rattle.rulebook.specs.Situation.{Station, Kept, station, areaDirection, held, blank, out, inward, normal, _becomes_, _with-exit_, withStations, fresh}
 use Rattle.rulebook.specs.Sound.{sound}
+use Rattle.rulebook.proofs.ExclusionsKept.{none-annulled}
 use Rattle.rulebook.proofs.SoundnessKept.{parts, whole}
 use Rattle.rulebook.proofs.FreshSound.{fresh-sound}
 use Rattle.aspects.specs.Aspects.{red, yellow, green, code, is-red, runs, signals-after, section-free, block-open, exit-open, is-open, entry-red, out-of-sight, shows-with, shows}
@@ -50,8 +51,8 @@ in-use TowardsA = withStations (blank becomes inward) out-with-route fresh
 
 in-use-sound : (p : Plan) (d : Direction) → T (sound p (in-use d))
 unfolding out-with-route
-in-use-sound p TowardsB = whole p (in-use TowardsB) (record { stations = tt; sets = parts p fresh (fresh-sound p) .sets; watch = tt })
-in-use-sound p TowardsA = whole p (in-use TowardsA) (record { stations = tt; sets = parts p fresh (fresh-sound p) .sets; watch = tt })
+in-use-sound p TowardsB = whole p (in-use TowardsB) (record { stations = tt; sets = parts p fresh (fresh-sound p) .sets; watch = tt; exclusions = none-annulled p (in-use TowardsB) refl refl })
+in-use-sound p TowardsA = whole p (in-use TowardsA) (record { stations = tt; sets = parts p fresh (fresh-sound p) .sets; watch = tt; exclusions = none-annulled p (in-use TowardsA) refl refl })
 
 free : (k : ℕ) → T (not (k belongs-to none))
 free k = subst (λ (v : Bool). T (not v)) (sym (none-has k)) tt

@@ -1,8 +1,8 @@
 -- The line: a plan, its stations, its sections and their signals.
-use Prim.Native.Nat.{ℕ, _+_, _-_}
+use Prim.Native.Nat.{ℕ, zero, suc, _+_, _-_}
 use mathlib.Core.Bool.{Bool, true, false, not}
 use lib.Dec.{eqb, leb, ltb}
-use Rattle.words.specs.Words.{_and_, if_then_else_}
+use Rattle.words.specs.Words.{_and_, _or_, if_then_else_}
 use Rattle.block.specs.declared.line.Plan.{Plan}
 use Rattle.block.specs.declared.line.Name.{Name}
 use Rattle.block.specs.declared.line.Name.the-variants.{StationA, StationB}
@@ -19,6 +19,14 @@ plan-judged p = if isPlan p then 0 else 1
 
 abbrev pub is-section : Plan → ℕ → Bool
 is-section p k = leb 1 k and leb k (p .sections)
+
+-- a test holds of some section of the line
+abbrev pub some-of : ℕ → (ℕ → Bool) → Bool
+some-of zero test = false
+some-of (suc k) test = test (suc k) or some-of k test
+
+abbrev pub some-section : Plan → (ℕ → Bool) → Bool
+some-section p test = some-of (p .sections) test
 
 -- "Sections 1..b are A's area, the others B's."
 abbrev pub owner : Plan → ℕ → Name
@@ -73,6 +81,9 @@ same-station StationA StationA = true
 same-station StationA StationB = false
 same-station StationB StationA = false
 same-station StationB StationB = true
+
+abbrev pub in-area : Plan → Name → ℕ → Bool
+in-area p s k = same-station (owner p k) s
 
 -- the frontier lies between two sections that follow each other and are not in one area
 abbrev pub across-frontier : Plan → ℕ → ℕ → Bool

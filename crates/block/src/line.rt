@@ -1,13 +1,21 @@
 // The line: n sections, numbered from A, and a frontier. Sections 1 to b are A's area, the others B's.
 ghost use mathlib.Core.Path.{_≡_};
 ghost use Prim.Native.Nat.{_+_, _-_};
-ghost use Rattle.block.specs.Line.{isPlan, plan-judged, is-section, owner, first-section, is-first, station-named, opposite, away, toward, entrance, terminus, before, across-frontier, direction-of, section-of, is-signal, is-exit, is-block-signal};
+ghost use Rattle.words.specs.Words.{_and_};
+ghost use Rattle.sections.specs.Sections.{_belongs-to_};
+ghost use Rattle.block.specs.Line.{isPlan, plan-judged, is-section, some-section, in-area, owner, first-section, is-first, station-named, opposite, away, toward, entrance, terminus, before, across-frontier, direction-of, section-of, is-signal, is-exit, is-block-signal};
+ghost use Rattle.block.specs.Areas.{AreaOf};
 use super::refused::ACCEPTED;
 use super::refused::NO_PLAN;
+use sections::both;
+use sections::minus;
+use sections::sections_to;
 
+// Its last field says the edition: the rules of 2012, or those of 2024 (02, Req 05).
 pub struct Plan {
     pub sections: u8,
     pub frontier: u8,
+    pub rules2012: bool,
 }
 
 pub enum Name {
@@ -43,6 +51,25 @@ impl Plan {
             return Name::StationA;
         }
         Name::StationB
+    }
+
+    // The sections of a station's area, of those that a word has a bit for.
+    pub fn area(self, s: Name) -> u64
+        ensures { λ r. ⌜ AreaOf self s r ⌝ }
+    {
+        let line = sections_to(self.sections);
+        let a = sections_to(self.frontier);
+        match s {
+            Name::StationA => both(line, a),
+            Name::StationB => minus(line, a),
+        }
+    }
+
+    // Some section of the area of s is in m.
+    pub fn some_in_area(self, s: Name, m: u64) -> bool
+        ensures { λ r. ⌜ r ≡ some-section self (λ k. in-area self s k and (k belongs-to m)) ⌝ }
+    {
+        both(self.area(s), m) != 0
     }
 
     pub fn first_section(self, s: Name) -> u8

@@ -20,6 +20,7 @@ use Rattle.records.specs.Situation.{Codes, situation-of, situation}
 use Rattle.records.specs.Lists.{events, readings, answer-length}
 use Rattle.records.specs.Question.{Parts, question}
 use Rattle.records.proofs.RecordLaws.{plan-law, situation-law, events-law, readings-law, answer-length-law}
+use Rattle.records.proofs.PlanForms.{every-plan}
 use Rattle.records.proofs.QuestionLaws.{written-is-read, one-form}
 use Rattle.records.proofs.Lies.{fits}
 use Rattle.paper.specs.Question.{Question, question-of}
@@ -40,10 +41,6 @@ pub record EndToEnd (bytes : List ℕ) : Type 0 where
 
 judged-right : (p : Plan) (x : Kept) → T (isPlan p) → T (sound p x) → judged p x ≡ 0
 judged-right p x h k = rw (holds-is (isPlan p) h, holds-is (sound p x) k)
-
-every-plan : (p : Plan) → plan .writes p ≡ true
-unfolding plan
-every-plan p = refl
 
 module _ (bytes : List ℕ) (a : AcceptedBytes bytes) where
   abbrev v : Parts

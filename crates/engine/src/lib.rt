@@ -16,8 +16,9 @@ ghost use Rattle.rules.specs.Wanted.{Asked};
 ghost use Rattle.engine.specs.Walked.{own, ends, explored, attempted};
 use block::event::Event;
 use block::line::Plan;
+use events::added_in_2012;
 use events::next;
-use events::own_refusal;
+use events::refusal_in_2024;
 use records::lists::EVENT;
 use records::lists::READING;
 use records::lists::event_at;
@@ -28,6 +29,7 @@ use situation::Situation;
 use slots::form::FROM_START;
 use slots::room::Part;
 use slots::room::grow_slot;
+use slots::room::put_grown;
 use slots::room::put_slot;
 
 // What stays the same through a call: the plan, where the key is continued, and what the readings ask.
@@ -161,10 +163,16 @@ fn attempt(
     let mut count = at.count;
     while place <= n {
         let event = event_at(events, place);
-        if own_refusal(ask.plan, x, event) == 0 {
+        let mut refusal = refusal_in_2024(ask.plan, x, event);
+        if refusal == 0 {
+            if ask.plan.rules2012 {
+                refusal = added_in_2012(ask.plan, x, event);
+            }
+        }
+        if refusal == 0 {
             if left == 1 {
                 if ends_answer(x, on, ask, event, readings) {
-                    let part = put_slot(grow_slot(slot, depth, place), count, room);
+                    let part = put_grown(slot, depth, place, count, room);
                     if part.more {
                         return Part {
                             count: part.count,

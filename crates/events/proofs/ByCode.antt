@@ -4,7 +4,8 @@ use mathlib.Core.Path.{_≡_, refl, sym, ap, _∙_}
 use Rattle.rulebook.specs.Situation.{Situation, Kept, seen-from, kept-from}
 use lib.Dec.{T}
 use Rattle.rulebook.specs.Table.{Kind, station, table, unknown, kind-of}
-use Rattle.rulebook.specs.Apply.{refuses, leads, refusal-at, led-at, spot-named, own-refusal, reached}
+use Rattle.rulebook.specs.Apply.{refuses, leads, refusal-at, led-at, spot-named, reached}
+use Rattle.rulebook.specs.Editions.{kind-in-2024, refusal-by}
 use Rattle.block.specs.declared.line.Plan.{Plan}
 use Rattle.block.specs.declared.line.Name.{Name}
 use Rattle.block.specs.declared.line.Name.the-variants.{StationA, StationB}
@@ -20,13 +21,13 @@ module _ (p : Plan) (x : Kept) (e : Event) where
 
   -- of a code, as it stands in the table
   abbrev refusal-of : ℕ → ℕ
-  refusal-of c = refusal-at (kind-of c) (at (kind-of c .argument)) x
+  refusal-of c = refusal-at (kind-in-2024 (kind-of c)) (at (kind-of c .argument)) x
 
   abbrev led-of : ℕ → Kept
   led-of c = led-at (kind-of c) (at (kind-of c .argument)) x
 
   module _ {n : ℕ} (is : e .code ≡ n) where
-    pub refused-as : {r : ℕ} → r ≡ refusal-of n → r ≡ own-refusal p x e
+    pub refused-as : {r : ℕ} → r ≡ refusal-of n → r ≡ refusal-by kind-in-2024 p x e
     refused-as h = h ∙ ap refusal-of (sym is)
 
     pub led-as : {z : Kept} → z ≡ led-of n → z ≡ reached p x e
@@ -54,9 +55,9 @@ module _ (p : Plan) (x : Kept) (e : Event) (n : ℕ) (t : T (within n table)) (o
   none : kind-of (e .code) ≡ unknown
   none = no-kind n t (e .code) (past n (e .code) others)
 
-  pub refused-unknown : 3 ≡ own-refusal p x e
+  pub refused-unknown : 3 ≡ refusal-by kind-in-2024 p x e
   unfolding refusal-at
-  refused-unknown = sym (ap (λ (k : Kind). refusal-at k (of-kind k) x) none)
+  refused-unknown = sym (ap (λ (k : Kind). refusal-at (kind-in-2024 k) (of-kind k) x) none)
 
   pub led-unknown : x ≡ reached p x e
   unfolding led-at

@@ -1,4 +1,4 @@
--- What refuses an event of a section or of a signal, and where one leads that leaves the stations, is the same as either station sees it.
+-- What refuses an event of a section or of a signal in 2024, and where one leads that leaves the stations, is the same as either station sees it.
 -- Assumes nothing.
 use Prim.Native.Nat.{ℕ}
 use mathlib.Core.Bool.{Bool, not}
@@ -12,6 +12,7 @@ use Rattle.rulebook.specs.Place.{place}
 use Rattle.rulebook.specs.Events.{still-occupied, watch-freed}
 use Rattle.rulebook.specs.Table.{Kind, Bslb, BslbOff, Occupied, Freed}
 use Rattle.rulebook.specs.Apply.{refuses, leads, refusal-at, led-at}
+use Rattle.rulebook.specs.Editions.{kind-in-2024}
 use Rattle.block.specs.declared.line.Name.{Name}
 use Rattle.block.specs.declared.line.Name.the-variants.{StationA, StationB}
 use Rattle.block.specs.declared.event.Spot.{Spot}
@@ -26,7 +27,7 @@ unfolding refusal-at
 from-either e at x alike h = h ∙ sym (alike (at .own))
 
 module _ (at : Spot) (x : Kept) where
-  bslb-alike : Seen-alike Bslb at x
+  bslb-alike : Seen-alike (kind-in-2024 Bslb) at x
   bslb-alike StationA = refl
   bslb-alike StationB = refl
 
@@ -42,8 +43,8 @@ module _ (at : Spot) (x : Kept) where
   freed-alike StationA = refl
   freed-alike StationB = refl
 
-  pub bslb-refused : {r : ℕ} → r ≡ refuses Bslb at x → r ≡ refusal-at Bslb at x
-  bslb-refused = from-either Bslb at x bslb-alike
+  pub bslb-refused : {r : ℕ} → r ≡ refuses (kind-in-2024 Bslb) at x → r ≡ refusal-at (kind-in-2024 Bslb) at x
+  bslb-refused = from-either (kind-in-2024 Bslb) at x bslb-alike
 
   pub bslb-off-refused : {r : ℕ} → r ≡ refuses BslbOff at x → r ≡ refusal-at BslbOff at x
   bslb-off-refused = from-either BslbOff at x bslb-off-alike

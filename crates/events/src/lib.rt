@@ -2,6 +2,7 @@
 ghost use mathlib.Core.Path.{_≡_};
 ghost use Rattle.rulebook.specs.Table.{station, section, kind-of, Occupied};
 ghost use Rattle.rulebook.specs.Apply.{fits, known, argument-right, spot-named, led-at, own-refusal, reached, refused, stepped, applied};
+ghost use Rattle.rulebook.specs.Editions.{kind-in-2024, refusal-by, added-in-2012};
 ghost use Rattle.rulebook.specs.Names.{name};
 ghost use Rattle.situation.specs.Packed.{unpacked};
 ghost use Rattle.events.specs.Outcomes.{outcome};
@@ -116,10 +117,10 @@ fn at_owner(plan: Plan, arg: u8) -> Spot
     }
 }
 
-// The event's own refusal, of a code that is known and an argument that is right. What refuses an event of a section or of a signal is the
-// same as either station sees it.
-pub fn own_refusal(plan: Plan, x: Situation, event: Event) -> u8
-    ensures { λ r. ⌜ r ≡ own-refusal plan (unpacked x) event ⌝ }
+// What refuses the event in 2024, of a code that is known and an argument that is right. What refuses an event of a section or of a signal
+// is the same as either station sees it.
+pub fn refusal_in_2024(plan: Plan, x: Situation, event: Event) -> u8
+    ensures { λ r. ⌜ r ≡ refusal-by kind-in-2024 plan (unpacked x) event ⌝ }
 {
     let code = event.code;
     let arg = event.argument;
@@ -152,6 +153,36 @@ pub fn own_refusal(plan: Plan, x: Situation, event: Event) -> u8
         23 => refusals::second_refusal(seen, at),
         _ => UNKNOWN_CODE,
     }
+}
+
+// (02, Req 05) What 2012 adds: AFBLI and AFBLE exclude BILC, BSLG and BSLB; BILC and BSLB are refused where own is annulled.
+pub fn added_in_2012(plan: Plan, x: Situation, event: Event) -> u8
+    ensures { λ r. ⌜ r ≡ added-in-2012 plan (unpacked x) event ⌝ }
+{
+    let code = event.code;
+    let arg = event.argument;
+    let section = section_of(arg);
+    match code {
+        3 => refusals::excluded_refusal(plan, x, station_named(arg)),
+        4 => refusals::excluded_refusal(plan, x, station_named(arg)),
+        6 => refusals::annulled_refusal(x, station_named(arg)),
+        10 => refusals::annulled_refusal(x, plan.owner(section as u16)),
+        _ => 0,
+    }
+}
+
+// The event's own refusal, of a code that is known and an argument that is right. What 2012 adds comes "after all checks in 01".
+pub fn own_refusal(plan: Plan, x: Situation, event: Event) -> u8
+    ensures { λ r. ⌜ r ≡ own-refusal plan (unpacked x) event ⌝ }
+{
+    let r = refusal_in_2024(plan, x, event);
+    if r != 0 {
+        return r;
+    }
+    if plan.rules2012 {
+        return added_in_2012(plan, x, event);
+    }
+    0
 }
 
 // Where a section becoming occupied leads.

@@ -9,7 +9,7 @@ use Rattle.rulebook.specs.Situation.{Kept, blank, out, inward, no-route, normal
 use Rattle.rulebook.specs.Judged.{judged}
 use Rattle.block.specs.declared.codes.Route.{Route}
 use Rattle.block.specs.declared.line.Plan.{Plan}
-use Rattle.rulebook.specs.Table.{Sobb, Cobb, Afbli, Afble, Dafbl, Bilc, Bslg, ExitNormal, ExitSpecial, ExitReleased, Occupied, Freed, LinkLost, LinkRestored, Second}
+use Rattle.rulebook.specs.Table.{Sobb, Cobb, Afbli, Afble, Dafbl, Bilc, Dilc, Bslg, BslgOff, Bslb, BslbOff, ExitNormal, ExitSpecial, ExitReleased, Entry, Occupied, Freed, LinkLost, LinkRestored, Second}
 use Rattle.rulebook.specs.Apply.{event, applied}
 use Rattle.rulebook.specs.Names.{name}
 use Rattle.rulebook.specs.Laws as laws
@@ -33,11 +33,17 @@ infix 80 line-reads_
 infix 90 _seconds-pass
 infix 70 with-mark_counting_on-sections_and-route_is-judged_
 infix 70 _then_
+infix 70 in-2012_then_
+infix 70 _then-in-2012-judged_
 infix 70 _metres-at_exactly_seconds
 infix 70 _metres-at_within_typed_/2^18-gets_error_
 infix 70 _metres-at_within-0-no-float-is-right
 abbrev pub plan : Plan
-plan = record { sections = 4; frontier = 2 }
+plan = record { sections = 4; frontier = 2; rules2012 = false }
+
+-- the same of 2012 (02, Req 05)
+abbrev pub plan-of-2012 : Plan
+plan-of-2012 = record { sections = 4; frontier = 2; rules2012 = true }
 
 abbrev pub A : ℕ
 A = 0
@@ -64,8 +70,23 @@ DAFBL = Dafbl .code
 abbrev pub BILC : ℕ
 BILC = Bilc .code
 
+abbrev pub DILC : ℕ
+DILC = Dilc .code
+
 abbrev pub BSLG : ℕ
 BSLG = Bslg .code
+
+abbrev pub BSLG-released : ℕ
+BSLG-released = BslgOff .code
+
+abbrev pub BSLB : ℕ
+BSLB = Bslb .code
+
+abbrev pub BSLB-released : ℕ
+BSLB-released = BslbOff .code
+
+abbrev pub entry-route : ℕ
+entry-route = Entry .code
 
 abbrev pub exit-route : ℕ
 exit-route = ExitNormal .code
@@ -107,34 +128,38 @@ pub data Seen : Type 0 where
 
 pub data Row : Type 0 where
   _then_ : List Tried → List Seen → Row
+  in-2012_then_ : List Tried → List Seen → Row
+  _then-in-2012-judged_ : List Tried → ℕ → Row
   _metres-at_exactly_seconds : ℕ → ℕ → ℕ → Row
   with-mark_counting_on-sections_and-route_is-judged_ : Bool → ℕ → ℕ → Route → ℕ → Row
   _metres-at_within_typed_/2^18-gets_error_ : ℕ → ℕ → ℕ → ℕ → ℕ → ℕ → Row
   _metres-at_within-0-no-float-is-right : ℕ → ℕ → Row
 
 -- ---- when a row holds
-abbrev pub show-from : Kept → ℕ → List ℕ → Bool
-show-from x s [] = true
-show-from x s (v ∷ vs) = eqb (value-read plan x 1 s) v and show-from x (s + 1) vs
+module _ (plan : Plan) where
+  abbrev pub show-from : Kept → ℕ → List ℕ → Bool
+  show-from x s [] = true
+  show-from x s (v ∷ vs) = eqb (value-read plan x 1 s) v and show-from x (s + 1) vs
 
-abbrev pub is-seen : Kept → Seen → Bool
-is-seen x (signal s shows v) = eqb (value-read plan x 1 s) v
-is-seen x (towards-B-show vs) = show-from x 1 vs
-is-seen x (towards-A-show vs) = show-from x 129 vs
-is-seen x (orientation s is v) = eqb (value-read plan x 2 s) v
-is-seen x (annulment s is v) = eqb (value-read plan x 3 s) v
-is-seen x (line-reads v) = eqb (value-read plan x 5 0) v
+  abbrev pub is-seen : Kept → Seen → Bool
+  is-seen x (signal s shows v) = eqb (value-read plan x 1 s) v
+  is-seen x (towards-B-show vs) = show-from x 1 vs
+  is-seen x (towards-A-show vs) = show-from x 129 vs
+  is-seen x (orientation s is v) = eqb (value-read plan x 2 s) v
+  is-seen x (annulment s is v) = eqb (value-read plan x 3 s) v
+  is-seen x (line-reads v) = eqb (value-read plan x 5 0) v
 
-abbrev pub all-seen : Kept → List Seen → Bool
-all-seen x [] = true
-all-seen x (r ∷ rs) = is-seen x r and all-seen x rs
+  abbrev pub all-seen : Kept → List Seen → Bool
+  all-seen x [] = true
+  all-seen x (r ∷ rs) = is-seen x r and all-seen x rs
 
-abbrev pub go : Kept → List Tried → List Seen → Bool
-go x [] rs = all-seen x rs
-go x ((code at arg gives refusal) ∷ es) rs = eqb (applied plan x (event code arg) .refusal) refusal and go (applied plan x (event code arg) .next) es rs
-go x ((code at arg gives refusal naming n) ∷ es) rs =
-    eqb (applied plan x (event code arg) .refusal) refusal and eqb (name plan x (event code arg) refusal) n and go (applied plan x (event code arg) .next) es rs
-go x ((n seconds-pass) ∷ es) rs = go (laws.seconds n plan x) es rs
+  -- the events get these refusals, and what they lead to passes the test
+  abbrev pub go : (Kept → Bool) → Kept → List Tried → Bool
+  go end x [] = end x
+  go end x ((code at arg gives refusal) ∷ es) = eqb (applied plan x (event code arg) .refusal) refusal and go end (applied plan x (event code arg) .next) es
+  go end x ((code at arg gives refusal naming n) ∷ es) =
+      eqb (applied plan x (event code arg) .refusal) refusal and eqb (name plan x (event code arg) refusal) n and go end (applied plan x (event code arg) .next) es
+  go end x ((n seconds-pass) ∷ es) = go end (laws.seconds n plan x) es
 
 -- the fresh situation with this mark, count, set of occupied sections, and exit route of A, which is out then
 abbrev pub watched : Bool → ℕ → ℕ → Route → Kept
@@ -152,7 +177,10 @@ abbrev pub Gets : Marked → ℕ → ℕ → Type 0
 Gets m verdict e = (m .refusal ≡ 0) × (m .line .verdict ≡ verdict) × (m .line .error ≡ pos e)
 
 unfoldable pub Holds : Row → Type 0
-Holds (es then rs) = T (go fresh es rs)
+Holds (es then rs) = T (go plan (λ x. all-seen plan x rs) fresh es)
+Holds (in-2012 es then rs) = T (go plan-of-2012 (λ x. all-seen plan-of-2012 x rs) fresh es)
+-- what is accepted in 2024, judged in 2012
+Holds (es then-in-2012-judged refusal) = T (go plan (λ x. eqb (judged plan-of-2012 x) refusal) fresh es)
 Holds (with-mark m counting n on-sections k and-route r is-judged refusal) = judged plan (watched m n k r) ≡ refusal
 Holds (d metres-at v exactly t seconds) = exactAnswer 1 d v .top ≡ t * exactAnswer 1 d v .bottom
 Holds (d metres-at v within tolerance typed n /2^18-gets verdict error e) =
@@ -225,6 +253,24 @@ table =
     ∷ (with-mark true counting 5 on-sections 4 and-route no-route is-judged 2)
     ∷ (with-mark true counting 0 on-sections 0 and-route no-route is-judged 2)
     ∷ (with-mark true counting 0 on-sections 4 and-route normal is-judged 2)
+    -- 6 and 7 as 2012 has them (02, Req 05): BSLG A then AFBLI A: 16; AFBLE A then BILC A: 8
+    ∷ (in-2012 (BSLG at A gives 0 ∷ AFBLI at A gives 16 ∷ []) then (annulment A is 0 ∷ []))
+    ∷ (in-2012 (AFBLE at A gives 0 ∷ BILC at A gives 8 ∷ BSLG at A gives 8 ∷ []) then (annulment A is 2 ∷ []))
+    -- "11 BILC, 16 BSLG, 17 BSLB, in that order", after 10, and of BSLB that of either direction; signal 130 covers section 2 towards A
+    ∷ (in-2012 (BILC at A gives 0 ∷ BSLG at A gives 0 ∷ BSLB at 130 gives 0 ∷ entry-route at A gives 0 ∷ AFBLE at A gives 10 ∷ AFBLI at A gives 11 naming 0 ∷ DILC at A gives 0 ∷ AFBLI at A gives 16 naming 0 ∷ BSLG-released at A gives 0 ∷ AFBLI at A gives 17 naming 0 ∷ BSLB-released at 130 gives 0 ∷ AFBLI at A gives 0 ∷ [])
+    then (annulment A is 1 ∷ []))
+    -- "in the station's own area": of signal 3 it is B's; BSLB's own is the owner of its section
+    ∷ (in-2012 (BSLB at 3 gives 0 ∷ AFBLI at A gives 0 ∷ AFBLE at B gives 17 ∷ BSLB at 2 gives 8 ∷ BSLB at 131 gives 0 ∷ []) then (annulment A is 1 ∷ annulment B is 0 ∷ []))
+    -- the releases check nothing new; and what 2024 says beside the exclusions, 2012 says too: 7 without BILC, and 4
+    ∷ (in-2012 (AFBLI at A gives 0 ∷ DILC at A gives 5 ∷ BSLG-released at A gives 5 ∷ BSLB-released at 2 gives 5 ∷ DAFBL at A gives 0 ∷ []) then (annulment A is 0 ∷ []))
+    ∷ (in-2012 (AFBLE at A gives 0 ∷ exit-route at A gives 8 ∷ special-exit at A gives 0 ∷ []) then [])
+    ∷ (in-2012 (AFBLE at A gives 0 ∷ AFBLE at B gives 0 ∷ []) then (towards-B-show (0 ∷ 1 ∷ 0 ∷ 0 ∷ []) ∷ towards-A-show (0 ∷ 0 ∷ 1 ∷ 0 ∷ []) ∷ []))
+    -- "In that edition a situation with such a pair is not sound."
+    ∷ ((BSLG at A gives 0 ∷ AFBLI at A gives 0 ∷ []) then-in-2012-judged 2)
+    ∷ ((AFBLE at B gives 0 ∷ BILC at B gives 0 ∷ []) then-in-2012-judged 2)
+    ∷ ((AFBLI at A gives 0 ∷ BSLB at 2 gives 0 ∷ []) then-in-2012-judged 2)
+    ∷ ((AFBLI at A gives 0 ∷ BSLB at 130 gives 0 ∷ []) then-in-2012-judged 2)
+    ∷ ((AFBLI at A gives 0 ∷ BILC at B gives 0 ∷ BSLG at B gives 0 ∷ BSLB at 3 gives 0 ∷ []) then-in-2012-judged 0)
     -- a train that is expected everywhere leaves a free line behind it at once
     ∷ ((SOBB at A gives 0 ∷ COBB at B gives 0 ∷ exit-route at A gives 0 ∷ occupied at 1 gives 0 ∷ exit-released at A gives 0 ∷ occupied at 2 gives 0 ∷ freed at 1 gives 0 ∷ occupied at 3 gives 0 ∷ freed at 2 gives 0 ∷ freed at 3 gives 0 ∷ [])
     then (line-reads 0 ∷ []))

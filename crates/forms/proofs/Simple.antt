@@ -1,4 +1,4 @@
--- A byte, no byte, and a form for some of its values: their laws. Assumes nothing.
+-- A byte, no byte, a form for some of its values, and a form under other names: their laws. Assumes nothing.
 use Prim.Native.Nat.{ℕ}
 use mathlib.Core.Path.{_≡_, refl, sym, ap, _∙_}
 use mathlib.Core.Bool.{Bool, true}
@@ -44,11 +44,13 @@ module _ {A : Type 0} (test : A → Bool) {F : Form A} (L : Lawful F) where
 pub always-law : (v : ℕ) → Lawful (always v)
 always-law v = only-law (λ b. eqb b v) byte-law
 
-pub named-law : {A B : Type 0} (make : A → B) (parts : B → A) {F : Form A} → ((a : A) → parts (make a) ≡ a) → ((b : B) → make (parts b) ≡ b) → Lawful F → Lawful (named make parts F)
+-- other names: every value is made of its parts, and what is made of a value that the form writes has that value as its parts
+pub named-law : {A B : Type 0} (make : A → B) (parts : B → A) {F : Form A} → ((a : A) → F .writes a ≡ true → parts (make a) ≡ a) → ((b : B) → make (parts b) ≡ b) → Lawful F → Lawful (named make parts F)
 named-law make parts {F = F} p q L = record {
   back = λ b rest h. rw (L .back (parts b) rest h, q b);
   one = λ s b rest e.
       let f = before (F .read s) _ e in
-      let a : f .value ≡ parts b = sym (p (f .value)) ∙ ap parts (same-value (f .next-found)) in
+      let w = L .one s (f .value) (f .rest) (f .first) .0 in
+      let a : f .value ≡ parts b = sym (p (f .value) w) ∙ ap parts (same-value (f .next-found)) in
       L .one s (parts b) rest (renamed (f .first) a (same-rest (f .next-found)));
 }

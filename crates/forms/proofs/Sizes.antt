@@ -140,8 +140,11 @@ pub section-takes : (w : ℕ) → Takes w (section w)
 section-takes w = record { sized = record { size = λ a h. field-size w a }; reads = field-reads w }
 
 module _ {A B : Type 0} (make : A → B) (parts : B → A) {n : ℕ} {F : Form A} where
+  pub named-size : Size n F → Size n (named make parts F)
+  named-size Z = record { size = λ b h. Z .size (parts b) h }
+
   pub named-takes : Takes n F → Takes n (named make parts F)
   named-takes Z = record {
-    sized = record { size = λ b h. Z .sized .size (parts b) h };
+    sized = named-size (Z .sized);
     reads = λ s b h. let f = Z .reads s b h in record { value = make (f .value); rest = f .rest; is = rw (f .is) };
   }

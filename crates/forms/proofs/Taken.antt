@@ -45,6 +45,17 @@ module _ {A : Type 0} (F : Form A) where
   unfolding value
   none-value none s e = rw e
 
+-- what the code answers: as many bytes as the form takes, and no more than there are
+abbrev pub Spans : {A : Type 0} → Form A → List ℕ → ℕ → Type 0
+Spans F s k = (k ≡ taken F s) × (k ≤ length s)
+
+module _ {A : Type 0} (F : Form A) where
+  pub there-spans : {k : ℕ} {s : List ℕ} → There F k s → Spans F s k
+  there-spans t = (sym (there-taken t), t .long)
+
+  pub none-spans : (s : List ℕ) → F .read s ≡ nothing → Spans F s 0
+  none-spans s e = (sym (none-taken F s e), omega arith)
+
 -- ---- forms of a fixed size
 pub takes-there : {A : Type 0} {n : ℕ} {F : Form A} → Lawful F → Takes n F → (s : List ℕ) → Bytes s → n ≤ length s → There F n s
 takes-there {n = n} {F = F} L Z s b h =

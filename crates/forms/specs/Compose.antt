@@ -91,7 +91,7 @@ field-read (suc w) s = after (octet .read s) (λ low rest. after (field-read w r
 abbrev pub section : ℕ → Form ℕ
 section w = record { written = field-written w; read = field-read w; writes = λ m. ltb m (2 ^ (8 * w)) }
 
--- ---- the same form under other names: the values of A are those of B, by make and parts
+-- ---- the same form under other names: a value of B is written as its parts, and is made of what is read
 abbrev pub named : {A B : Type 0} → (A → B) → (B → A) → Form A → Form B
 named make parts F = record {
   written = λ b. F .written (parts b);

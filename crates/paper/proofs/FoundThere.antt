@@ -17,6 +17,7 @@ use Rattle.records.specs.Question.{Parts, question}
 use Rattle.records.specs.Laid.{si-at, ev-at, rd-at, ln-at, laid-in}
 use Rattle.records.specs.InBytes.{part, plan-at, codes-at, events-in, readings-in}
 use Rattle.records.specs.declared.question.Laid.{Laid}
+use Rattle.records.proofs.PlanForms.{plan-size-between}
 use Rattle.records.proofs.SituationForms.{size-between}
 use Rattle.records.proofs.Lies.{fits, plan-lies, situation-lies, events-found, readings-found, count-lies, length-lies, long}
 use Rattle.lists.specs.Refusal.{lists-refusal}
@@ -100,7 +101,7 @@ module _ (s : List ℕ) (at : Laid) (i : Is s at) where
   within =
       let l = long s v (i .whole) in
       record {
-        plan = omega (arith, l .end);
+        plan = omega (arith, l .end, plan-size-between (v .0) .0);
         situation = omega (arith, si-is, ev-is, l .si, l .ev, size-between (v .1 .0) .0);
         events = omega (arith, ev-is, rd-is, l .ev, l .rd);
         readings = omega (arith, rd-is, ln-is, l .rd, l .ln);

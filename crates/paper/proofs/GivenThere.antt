@@ -15,6 +15,7 @@ use Rattle.records.specs.Plan.{plan}
 use Rattle.records.specs.Situation.{Codes, situation-of, situation}
 use Rattle.records.specs.InBytes.{plan-at, codes-at}
 use Rattle.records.proofs.RecordLaws.{plan-law, situation-law}
+use Rattle.records.proofs.PlanForms.{plan-long-enough}
 use Rattle.records.proofs.SituationForms.{long-enough}
 use Rattle.records.proofs.InBytes.{plan-alone, codes-alone}
 use Rattle.paper.specs.Given.{Given, given-by, given, there}
@@ -22,13 +23,8 @@ use Rattle.paper.specs.Given.{Given, given-by, given, there}
 written-long-enough : {n : ℕ} {a s : List ℕ} → n ≤ length a → a ≡ s → n ≤ length s
 written-long-enough e f = omega (arith, e, ap length f)
 
-plan-size : (p : Plan) → 4 ≤ length (plan .written p)
-unfolding plan
-plan-size p = omega arith
-
 pub plan-long : (s : List ℕ) {k : ℕ} → There plan k s → 4 ≤ length s
-unfolding plan
-plan-long s t = omega (arith, there-long (plan-law .lawful) s t, t .long)
+plan-long s t = omega (arith, there-long (plan-law .lawful) s t, plan-long-enough (t .what), t .long)
 
 module _ (ps ss : List ℕ) where
   pub no-plan : whole plan ps ≡ no-form → false ≡ there (given ps ss)
@@ -61,7 +57,7 @@ module _ (ps ss : List ℕ) where
       by no-form e z f h = absurd (false≢true h)
       by (accepted p) e no-form f h = absurd (false≢true h)
       by (accepted p) e (accepted c) f h = record {
-        plan = written-long-enough (plan-size p) (Whole.one-form (plan-law .lawful) ps p e .1);
+        plan = written-long-enough (plan-long-enough p) (Whole.one-form (plan-law .lawful) ps p e .1);
         situation = written-long-enough (long-enough c) (Whole.one-form (situation-law .lawful) ss c f .1);
         is = rw (e, f, plan-alone ps p e, codes-alone ss c f);
       }

@@ -1,4 +1,4 @@
--- A question has at most 78 bytes, as many as its five records have one after the other; whatever is longer has "bytes .. left over": 20.
+-- A question has at most 79 bytes, as many as its five records have one after the other; whatever is longer has "bytes .. left over": 20.
 -- Assumes nothing.
 use Prim.Native.Nat.{ℕ, _+_, _≤_, _<_}
 use mathlib.Core.Path.{_≡_}
@@ -10,11 +10,11 @@ use Rattle.forms.specs.Compose.{byte, _⊗_}
 use Rattle.forms.proofs.Simple.{byte-law, left-out-law}
 use Rattle.forms.proofs.Sizes.{byte-takes, left-out-takes}
 use Rattle.forms.proofs.Bounded.{Bounded, size-bounded, sequence-bounded, letters-bounded, counted-bounded, named-bounded, choice-bounded, accepted-bounded, longer-is-refused}
-use Rattle.records.specs.Plan.{LB, plan-of, plan-parts, plan}
+use Rattle.records.specs.Plan.{LB, LC, plan}
 use Rattle.records.specs.Situation.{SI, SJ, situation}
 use Rattle.records.specs.Lists.{EV, RD, LN, event-of, event-parts, events, reading-of, reading-parts, readings, answer-length}
 use Rattle.records.specs.Question.{question}
-use Rattle.records.proofs.Records.{codes-takes}
+use Rattle.records.proofs.Records.{LB-takes, LC-size, codes-takes}
 use Rattle.records.proofs.QuestionLaws.{question-law}
 use Rattle.paper.specs.Read.{refused, readOf}
 use Rattle.paper.proofs.ReadBytes.{no-form-is-20, accepted-bytes}
@@ -26,9 +26,9 @@ Y & Z = sequence-bounded Y (λ _. Z)
 a-byte : Bounded 1 byte
 a-byte = size-bounded (byte-takes .sized)
 
-plan-bounded : Bounded 4 plan
+plan-bounded : Bounded 5 plan
 unfolding plan
-plan-bounded = letters-bounded LB (named-bounded plan-of plan-parts (a-byte & a-byte))
+plan-bounded = choice-bounded (omega arith) (letters-bounded LB (size-bounded (LB-takes .sized))) (letters-bounded LC (size-bounded LC-size))
 
 situation-bounded : Bounded 23 situation
 unfolding situation
@@ -49,12 +49,12 @@ length-bounded : Bounded 3 answer-length
 unfolding answer-length
 length-bounded = letters-bounded LN a-byte
 
-pub question-bounded : Bounded 78 question
+pub question-bounded : Bounded 79 question
 unfolding question
 question-bounded = plan-bounded & situation-bounded & events-bounded & readings-bounded & length-bounded
 
-pub at-most-78-bytes : (bytes : List ℕ) → readOf bytes .refusal ≡ 0 → length bytes ≤ 78
-at-most-78-bytes bytes ok = let a = accepted-bytes bytes ok in accepted-bounded (question-law .lawful) question-bounded bytes (a .parts) (a .form)
+pub at-most-79-bytes : (bytes : List ℕ) → readOf bytes .refusal ≡ 0 → length bytes ≤ 79
+at-most-79-bytes bytes ok = let a = accepted-bytes bytes ok in accepted-bounded (question-law .lawful) question-bounded bytes (a .parts) (a .form)
 
-pub longer-than-78-is-refused : (bytes : List ℕ) → 78 < length bytes → readOf bytes ≡ refused 20
-longer-than-78-is-refused bytes h = no-form-is-20 bytes (longer-is-refused (question-law .lawful) question-bounded bytes h)
+pub longer-than-79-is-refused : (bytes : List ℕ) → 79 < length bytes → readOf bytes ≡ refused 20
+longer-than-79-is-refused bytes h = no-form-is-20 bytes (longer-is-refused (question-law .lawful) question-bounded bytes h)

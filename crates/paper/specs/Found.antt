@@ -24,7 +24,7 @@ found-as r bytes = record {
 abbrev pub nowhere : ℕ → Found
 nowhere refusal = record {
   refusal = refusal;
-  plan = plan-of (0, 0);
+  plan = plan-of (0, (0, 0));
   situation = record { flags = 0; occupied = 0; signals = record { heldb = 0; helda = 0 } };
   count = 0;
   events = 0;

@@ -17,7 +17,7 @@ pub record Read : Type 0 where
   pub question : Question
 
 abbrev pub zeros : Question
-zeros = record { plan = plan-of (0, 0); situation = withLink false fresh; events = []; readings = []; length = 0 }
+zeros = record { plan = plan-of (0, (0, 0)); situation = withLink false fresh; events = []; readings = []; length = 0 }
 
 unfoldable pub refused : ℕ → Read
 refused n = record { refusal = n; question = zeros }

@@ -32,6 +32,7 @@ fn none(refusal: u8) -> Found
     let plan = Plan {
         sections: 0,
         frontier: 0,
+        rules2012: false,
     };
     let signals = Signals { heldb: 0, helda: 0 };
     let situation = Situation {

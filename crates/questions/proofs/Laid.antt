@@ -28,10 +28,6 @@ onto {n} a b room {first} (h, e) (k, f) =
 
 -- ---- a question's records
 module _ (q : Question) where
-  pub plan-long : length (plan .written (q .plan)) ≡ 4
-  unfolding plan
-  plan-long = refl
-
   pub length-long : length (answer-length .written (q .length)) ≡ 3
   unfolding answer-length
   length-long = refl

@@ -10,9 +10,9 @@ use Rattle.block.specs.declared.event.Event.{Event}
 use Rattle.block.specs.declared.reading.Reading.{Reading}
 use Rattle.forms.specs.Compose.{all}
 use Rattle.forms.specs.Whole.{accepted, whole}
-use Rattle.records.specs.Plan.{plan}
 use Rattle.records.specs.Lists.{one-event, events, one-reading, readings, answer-length}
 use Rattle.records.specs.Question.{question}
+use Rattle.records.proofs.PlanForms.{every-plan}
 use Rattle.records.proofs.CodesLaws.{codes-say, codes-fit}
 use Rattle.records.proofs.QuestionLaws as QuestionLaws
 use Rattle.paper.specs.Question.{Question, question-of, parts-of, written}
@@ -32,10 +32,10 @@ each-reading-fits (r ∷ items) = each-reading-fits items
 
 module _ (q : Question) (ok : refusalOf q ≡ 0) where
   form-fits : question .writes (parts-of q) ≡ true
-  unfolding question plan events readings answer-length
+  unfolding question events readings answer-length
   form-fits =
       let a = Accepted.accepted q ok in
-      rw (codes-fit (q .plan) (q .situation) (a .plan) (a .situation), le-leb _ _ (a .counts .0), le-leb _ _ (a .counts .1), le-leb 0 (length (q .readings)) (omega arith), le-leb _ _ (a .counts .2), each-event-fits (q .events), each-reading-fits (q .readings))
+      rw (every-plan (q .plan), codes-fit (q .plan) (q .situation) (a .plan) (a .situation), le-leb _ _ (a .counts .0), le-leb _ _ (a .counts .1), le-leb 0 (length (q .readings)) (omega arith), le-leb _ _ (a .counts .2), each-event-fits (q .events), each-reading-fits (q .readings))
 
   pub written-is-whole : whole question (written q) ≡ accepted (parts-of q)
   unfolding written

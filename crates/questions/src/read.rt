@@ -32,6 +32,7 @@ fn zeros() -> Question
     let plan = Plan {
         sections: 0,
         frontier: 0,
+        rules2012: false,
     };
     let signals = Signals { heldb: 0, helda: 0 };
     let situation = Situation {

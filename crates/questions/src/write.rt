@@ -8,7 +8,7 @@ ghost use Rattle.situation.specs.Packed.{unpacked};
 ghost use Rattle.records.specs.Plan.{plan};
 ghost use Rattle.records.specs.Situation.{codes-of, situation};
 ghost use Rattle.records.specs.Lists.{answer-length};
-ghost use Rattle.records.specs.InBytes.{situation-size};
+ghost use Rattle.records.specs.InBytes.{plan-size, situation-size};
 ghost use Rattle.paper.specs.Question.{written};
 ghost use Rattle.forms.specs.Form.{laid};
 ghost use Rattle.questions.specs.Write.{writtenOf, room-after};
@@ -26,6 +26,9 @@ use records::lists::LN;
 use records::lists::RD;
 use records::lists::READING;
 use records::plan::LB;
+use records::plan::LC;
+use records::plan::RULES_2012;
+use records::plan::plan_size;
 use situations::put_situation;
 use situations::record_size;
 use words::wide;
@@ -36,14 +39,26 @@ pub struct Written {
     pub length: usize,
 }
 
-// LB 4, EV 3, RD 3 and LN 3 bytes, before the situation and any event or reading.
-const LEAST_LENGTH: usize = 13;
+// EV, RD and LN have 3 bytes each, before any event or reading.
+const HEADS: usize = 9;
 
+// LB for a plan of 2024, LC for one of 2012.
 fn put_plan(p: Plan, room: &mut [u8]) -> usize
-    requires { ⌜ 4 ≤ length (now room) ⌝ }
-    ensures { λ r. ⌜ r ≡ 4 ⌝ }
+    requires { ⌜ plan-size p ≤ length (now room) ⌝ }
+    ensures { λ r. ⌜ r ≡ plan-size p ⌝ }
     ensures { λ _. ⌜ now (room .exit) ≡ laid (plan .written p) (now (room .entry)) ⌝ }
 {
+    if p.rules2012 {
+        let letters = LC;
+        let lc = [
+            letters.first,
+            letters.second,
+            p.sections,
+            p.frontier,
+            RULES_2012,
+        ];
+        return bytes::copy(&lc, room);
+    }
     let letters = LB;
     let lb = [letters.first, letters.second, p.sections, p.frontier];
     bytes::copy(&lb, room)
@@ -74,7 +89,7 @@ fn put_length(n: u8, room: &mut [u8]) -> usize
 
 fn put_question(q: Question, room: &mut [u8]) -> usize
     requires { ⌜ (q .events .count ≤ 12) × (q .readings .count ≤ 6) × (situation .writes (codes-of (unpacked (q .situation))) ≡ true) ⌝ }
-    requires { ⌜ 13 + situation-size (codes-of (unpacked (q .situation))) + 2 * q .events .count + 3 * q .readings .count ≤ length (now room) ⌝ }
+    requires { ⌜ 9 + plan-size (q .plan) + situation-size (codes-of (unpacked (q .situation))) + 2 * q .events .count + 3 * q .readings .count ≤ length (now room) ⌝ }
     ensures { λ r. ⌜ r ≡ length (written (asked q)) ⌝ }
     ensures { λ _. ⌜ now (room .exit) ≡ laid (written (asked q)) (now (room .entry)) ⌝ }
 {
@@ -95,7 +110,7 @@ pub fn write_question(q: Question, room: &mut [u8]) -> Written
         return Written { refusal, length: 0 };
     }
     let lists = EVENT * wide(q.events.count) + READING * wide(q.readings.count);
-    let size = LEAST_LENGTH + record_size(q.situation) + lists;
+    let size = HEADS + plan_size(q.plan) + record_size(q.situation) + lists;
     if room.len() < size {
         return Written {
             refusal: SHORT_ROOM,

@@ -1,7 +1,7 @@
 -- Records at the front of bytes: what the code finds there is what the forms take. Assumes nothing.
 use Prim.Native.Nat.{ℕ, _+_, _*_, _-_, _≤_, _<_}
-use mathlib.Core.Path.{_≡_, refl, sym, _∙_}
-use mathlib.Core.Bool.{Bool, true, false}
+use mathlib.Core.Path.{_≡_, refl, sym, ap, _∙_}
+use mathlib.Core.Bool.{Bool, true, false, not}
 use mathlib.Core.List.{List, [], _∷_}
 use native.Mathlib.Omega.{arith}
 use native.Mathlib.Nat.{mul-le-mul, mul-comm}
@@ -14,8 +14,8 @@ use lib.Dec.{eqb, leb}
 use Rattle.words.specs.Words.{_and_, if_then_else_}
 use Rattle.forms.specs.declared.Letters.{Letters}
 use Rattle.forms.specs.Form.{nothing, Form}
-use Rattle.forms.specs.Compose.{stands, letters}
-use Rattle.forms.specs.Choices.{times}
+use Rattle.forms.specs.Compose.{stands, letters, only}
+use Rattle.forms.specs.Choices.{times, _or-else_}
 use Rattle.forms.specs.Compose as Compose
 use Rattle.forms.specs.Laws.{Lawful}
 use Rattle.forms.specs.Taken.{taken}
@@ -23,7 +23,7 @@ use Rattle.forms.proofs.Reading.{both}
 use Rattle.forms.proofs.InTurn.{stands-long as letters-long}
 use Rattle.forms.proofs.Lists.{times-law}
 use Rattle.forms.proofs.Sizes.{Bytes, bytes-on, Size, Takes, short-reads-nothing, times-takes}
-use Rattle.forms.proofs.Taken.{There, there-taken, none-taken, takes-there, letters-there, letters-not, letters-nothing, counted-there, counted-not, counted-nothing}
+use Rattle.forms.proofs.Taken.{There, there-taken, none-taken, Spans, there-spans, none-spans, takes-there, letters-there, letters-not, letters-nothing, only-there, only-not, only-nothing, first-there, second-there, neither, counted-there, counted-not, counted-nothing}
 use Rattle.records.specs.Sizes.{stands-with, fixed, counted}
 
 pub product : {w c n : ℕ} → w ≤ 3 → c < n → w * c ≤ 3 * n
@@ -88,6 +88,28 @@ module _ {A : Type 0} (m : Letters) {n : ℕ} {F : Form A} (L : Lawful F) (Z : T
       by : (v : Bool) → stands-with m n s ≡ v → taken (letters m F) s ≡ (if v then 2 + n else 0)
       by true e = there-taken (fixed-there e)
       by false e = none-taken (letters m F) s (fixed-not m L (Z .sized) s e)
+
+-- ---- one of two records, the first of a fixed size after its letters
+module _ {A : Type 0} (m : Letters) {n : ℕ} {F : Form A} (L : Lawful F) (Z : Takes n F) (G : Form A) (s : List ℕ) (b : Bytes s) where
+  pub first-spans : stands-with m n s ≡ true → Spans (letters m F or-else G) s (2 + n)
+  first-spans h = there-spans (letters m F or-else G) (first-there (letters m F) G s (fixed-there m L Z s b h))
+
+  module _ (h : stands-with m n s ≡ false) where
+    no-first : letters m F .read s ≡ nothing
+    no-first = fixed-not m L (Z .sized) s h
+
+    neither-spans : only (λ a. not (F .writes a)) G .read s ≡ nothing → Spans (letters m F or-else G) s 0
+    neither-spans e = none-spans (letters m F or-else G) s (neither (letters m F) G s no-first e)
+
+    -- the second, where the first cannot write its value
+    pub second-spans : {k : ℕ} (t : There G k s) → F .writes (t .what) ≡ false → Spans (letters m F or-else G) s k
+    second-spans t w = there-spans (letters m F or-else G) (second-there (letters m F) G s no-first (only-there (λ a. not (F .writes a)) t (ap not w)))
+
+    pub first-was-due : {k : ℕ} (t : There G k s) → F .writes (t .what) ≡ true → Spans (letters m F or-else G) s 0
+    first-was-due t w = neither-spans (only-not (λ a. not (F .writes a)) t (ap not w))
+
+    pub second-missing : G .read s ≡ nothing → Spans (letters m F or-else G) s 0
+    second-missing e = neither-spans (only-nothing (λ a. not (F .writes a)) G s e)
 
 -- ---- a count and so many values after two letters
 module _ {A : Type 0} (m : Letters) (least most : ℕ) (F : Form A) (s : List ℕ) where

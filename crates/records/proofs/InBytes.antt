@@ -2,7 +2,7 @@
 use Prim.Native.Nat.{ℕ, zero, suc, _+_, _-_, _*_, _/_, _≤_, _<_}
 use mathlib.Core.Path.{_≡_, refl, sym, ap, _∙_}
 use mathlib.Core.Bool.{Bool, true, false}
-use mathlib.Core.List.{List, [], _∷_, _++_}
+use mathlib.Core.List.{List, [], _∷_, _++_, append-nil}
 use native.Mathlib.Omega.{arith}
 use lib.ListN.{length, take, drop, getD, length-drop}
 use lib.Seq.{take-all}
@@ -24,8 +24,9 @@ use Rattle.forms.proofs.Whole as Whole
 use Rattle.records.specs.Situation.{SI, SJ, Codes, codes-made, code-parts, body, without-watch, with-watch, situation}
 use Rattle.records.specs.Lists.{one-event, one-reading, event-at}
 use Rattle.records.specs.InBytes.{events-in, readings-in, codes-at, both-zero, plan-at}
-use Rattle.records.specs.Plan.{plan}
+use Rattle.records.specs.Plan.{of-2024, of-2012, plan}
 use Rattle.records.proofs.RecordLaws.{plan-law, situation-law}
+use Rattle.records.proofs.PlanForms.{same-plan, plan-written-as}
 use Rattle.records.proofs.SituationForms.{FieldsFit, fields-fit, SJ-says, written-as}
 
 pub events-written-in : (items : List Event) → events-in (each-written one-event items) ≡ items
@@ -164,6 +165,13 @@ codes-alone s c h =
     let o = Whole.one-form (situation-law .lawful) s c h in
     ap codes-at (sym (o .1)) ∙ codes-written-at c (o .0)
 
+-- ---- the plan
+pub plan-written-at : (p : Plan) (rest : List ℕ) → plan-at (plan .written p ++ rest) ≡ p
+plan-written-at p rest = ap (λ (t : List ℕ). plan-at (t ++ rest)) (plan-written-as p) ∙ by (p .rules2012) refl
+  where
+    by : (v : Bool) → p .rules2012 ≡ v → plan-at ((if v then of-2012 .written p else of-2024 .written p) ++ rest) ≡ p
+    by true e = same-plan p (sym e)
+    by false e = same-plan p (sym e)
+
 pub plan-alone : (s : List ℕ) (p : Plan) → whole plan s ≡ accepted p → plan-at s ≡ p
-unfolding plan
-plan-alone s p h = ap plan-at (sym (Whole.one-form (plan-law .lawful) s p h .1))
+plan-alone s p h = ap plan-at (sym (append-nil (plan .written p) ∙ Whole.one-form (plan-law .lawful) s p h .1)) ∙ plan-written-at p []

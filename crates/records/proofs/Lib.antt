@@ -1,9 +1,12 @@
 pub mod RecordLaws
 pub mod QuestionLaws
+pub mod PlanForms
+pub mod Editions
 pub mod SituationForms
 pub mod InBytes
 pub mod Fronts
 pub mod Records
+pub mod PlanTaken
 pub mod SituationTaken
 pub mod SoundParts
 pub mod CodeByCode

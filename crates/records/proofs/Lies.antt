@@ -19,10 +19,11 @@ use Rattle.records.specs.Situation.{situation}
 use Rattle.records.specs.Lists.{one-event, events, one-reading, readings, answer-length}
 use Rattle.records.specs.Question.{Parts, question}
 use Rattle.records.specs.Laid.{si-at, ev-at, rd-at, ln-at}
-use Rattle.records.specs.InBytes.{part, plan-at, codes-at, situation-size, events-in, readings-in}
+use Rattle.records.specs.InBytes.{part, plan-at, plan-size, codes-at, situation-size, events-in, readings-in}
 use Rattle.records.proofs.QuestionLaws.{one-form}
+use Rattle.records.proofs.PlanForms.{plan-size-is}
 use Rattle.records.proofs.SituationForms.{size-is}
-use Rattle.records.proofs.InBytes.{events-written-in, readings-written-in, codes-written-at}
+use Rattle.records.proofs.InBytes.{events-written-in, readings-written-in, codes-written-at, plan-written-at}
 
 -- ---- one record after n bytes
 module _ (s x post : List ℕ) (n : ℕ) (e : drop n s ≡ x ++ post) where
@@ -79,10 +80,10 @@ module _ (s : List ℕ) (v : Parts) (h : whole question s ≡ accepted v) where
     pub readings : length (v .1 .1 .1 .0) ≤ 6
 
   pub fits : Fits
-  unfolding question plan events readings answer-length
+  unfolding question events readings answer-length
   fits =
-      let w = one-form s v h .0 in
-      let a = both (situation .writes (v .1 .0)) _ w in
+      let w = both (plan .writes (v .0)) _ (one-form s v h .0) in
+      let a = both (situation .writes (v .1 .0)) _ (w .1) in
       let b = both (events .writes (v .1 .1 .0)) _ (a .1) in
       let c = both (readings .writes (v .1 .1 .1 .0)) _ (b .1) in
       let d = both (leb 1 (length (v .1 .1 .0)) and leb (length (v .1 .1 .0)) 12) _ (b .0) .0 in
@@ -93,8 +94,7 @@ module _ (s : List ℕ) (v : Parts) (h : whole question s ≡ accepted v) where
 
   -- ---- what lies there
   pub plan-lies : plan-at s ≡ v .0
-  unfolding plan
-  plan-lies = rw from-lb
+  plan-lies = ap plan-at from-lb ∙ plan-written-at (v .0) from-si
 
   pub situation-lies : codes-at (part (si-at v) (ev-at v) s) ≡ v .1 .0
   situation-lies =
@@ -132,15 +132,14 @@ module _ (s : List ℕ) (v : Parts) (h : whole question s ≡ accepted v) where
   each-reading-long (r ∷ items) = omega (arith, each-reading-long items)
 
   pub record Long : Type 0 where
-    pub si : si-at v ≡ 4
-    pub ev : ev-at v ≡ 4 + situation-size (v .1 .0)
-    pub rd : rd-at v ≡ 7 + situation-size (v .1 .0) + 2 * length (v .1 .1 .0)
-    pub ln : ln-at v ≡ 10 + situation-size (v .1 .0) + 2 * length (v .1 .1 .0) + 3 * length (v .1 .1 .1 .0)
-    pub end : length s ≡ 13 + situation-size (v .1 .0) + 2 * length (v .1 .1 .0) + 3 * length (v .1 .1 .1 .0)
+    pub si : si-at v ≡ plan-size (v .0)
+    pub ev : ev-at v ≡ plan-size (v .0) + situation-size (v .1 .0)
+    pub rd : rd-at v ≡ 3 + plan-size (v .0) + situation-size (v .1 .0) + 2 * length (v .1 .1 .0)
+    pub ln : ln-at v ≡ 6 + plan-size (v .0) + situation-size (v .1 .0) + 2 * length (v .1 .1 .0) + 3 * length (v .1 .1 .1 .0)
+    pub end : length s ≡ 9 + plan-size (v .0) + situation-size (v .1 .0) + 2 * length (v .1 .1 .0) + 3 * length (v .1 .1 .1 .0)
 
-  lb-long : length (plan .written (v .0)) ≡ 4
-  unfolding plan
-  lb-long = refl
+  lb-long : length (plan .written (v .0)) ≡ plan-size (v .0)
+  lb-long = plan-size-is (v .0)
 
   si-long : length (situation .written (v .1 .0)) ≡ situation-size (v .1 .0)
   si-long = size-is (v .1 .0) (fits .situation)

@@ -8,11 +8,11 @@ use Rattle.forms.specs.Whole.{refused, accepted, whole}
 use Rattle.forms.specs.Laws.{Lettered}
 use Rattle.forms.proofs.Sequence.{_then_}
 use Rattle.forms.proofs.Whole as Whole
-use Rattle.records.specs.Plan.{LB}
+use Rattle.records.specs.Plan.{LB, LC}
 use Rattle.records.specs.Question.{Parts, question}
 use Rattle.records.proofs.RecordLaws.{plan-law, situation-law, events-law, readings-law, answer-length-law}
 
-pub question-law : Lettered (LB ∷ []) question
+pub question-law : Lettered (LB ∷ LC ∷ []) question
 unfolding question
 question-law =
     plan-law then λ _.

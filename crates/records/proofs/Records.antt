@@ -2,18 +2,20 @@
 use Prim.Native.Nat.{ℕ, _+_}
 use mathlib.Core.Path.{_≡_}
 use mathlib.Core.List.{List}
+use lib.Dec.{eqb}
 use Rattle.forms.specs.Form.{Form}
 use Rattle.forms.specs.Compose.{byte, _⊗_, section, named}
+use Rattle.forms.specs.Choices.{left-out, always}
 use Rattle.forms.specs.Laws.{Lawful}
 use Rattle.forms.specs.Taken.{taken}
 use Rattle.forms.proofs.Simple.{byte-law}
 use Rattle.forms.proofs.Fields.{section-law}
-use Rattle.forms.proofs.Sizes.{Bytes, Takes, byte-takes, section-takes, sequence-takes, named-takes}
-use Rattle.records.specs.Plan.{LB, plan-of, plan-parts, plan}
+use Rattle.forms.proofs.Sizes.{Bytes, Size, Takes, byte-takes, left-out-takes, only-size, section-takes, sequence-size, sequence-takes, named-size, named-takes}
+use Rattle.records.specs.Plan.{plan-of, plan-parts, plan-body}
 use Rattle.records.specs.Situation.{pair, body, codes-made, code-parts}
 use Rattle.records.specs.Lists.{EV, RD, LN, event-of, event-parts, one-event, events, reading-of, reading-parts, one-reading, readings, answer-length}
 use Rattle.records.specs.Sizes.{fixed, counted}
-use Rattle.records.proofs.RecordLaws.{pair-law, event-law, reading-law, plan-body-law}
+use Rattle.records.proofs.RecordLaws.{pair-law, event-law, reading-law}
 use Rattle.records.proofs.Fronts.{fixed-taken, list-taken}
 
 infixr 30 _&&_
@@ -29,9 +31,12 @@ a-pair = (pair-law, a-byte && byte-takes)
 abbrev a-field : Lawful (section 2) × Takes 2 (section 2)
 a-field = (section-law 2, section-takes 2)
 
-pub plan-taken : (s : List ℕ) → Bytes s → taken plan s ≡ fixed LB 2 s
-unfolding plan
-plan-taken s b = fixed-taken LB plan-body-law (named-takes plan-of plan-parts (a-byte && byte-takes)) s b
+-- n and b of LB; of LC the byte more
+pub LB-takes : Takes 2 (plan-body (left-out 0))
+LB-takes = named-takes plan-of plan-parts (a-byte && a-byte && left-out-takes 0)
+
+pub LC-size : Size 3 (plan-body (always 1))
+LC-size = named-size plan-of plan-parts (sequence-size (byte-takes .sized) (sequence-size (byte-takes .sized) (only-size (λ e. eqb e 1) (byte-takes .sized))))
 
 -- the codes up to the sections held towards A, and two more of so many bytes each
 abbrev codes-size : ℕ → ℕ

@@ -12,6 +12,7 @@ use Rattle.block.specs.declared.reading.Reading.{Reading}
 use Rattle.forms.specs.declared.Letters.{Letters}
 use Rattle.forms.specs.Compose.{byte, letters, section, named}
 use Rattle.forms.specs.Taken.{value}
+use Rattle.records.specs.Plan.{LC}
 use Rattle.records.specs.Situation.{SI, SJ, Codes, codes-made, code-parts, body}
 
 -- events of two bytes, one after the other
@@ -65,9 +66,13 @@ situation-letters c = if both-zero c then SI else SJ
 unfoldable pub situation-bytes : Codes → List ℕ
 situation-bytes c = letters (situation-letters c) (named codes-made code-parts (body byte)) .written c
 
--- the plan of a record LB
+-- ---- LB or LC: the second letter says which of the two
 abbrev pub plan-at : List ℕ → Plan
-plan-at s = record { sections = getD s 2 0; frontier = getD s 3 0 }
+plan-at s = record { sections = getD s 2 0; frontier = getD s 3 0; rules2012 = eqb (getD s 1 0) (LC .second) }
+
+-- how many bytes the record has, with its letters
+unfoldable pub plan-size : Plan → ℕ
+plan-size p = if p .rules2012 then 5 else 4
 
 -- the bytes from one place up to another
 abbrev pub part : ℕ → ℕ → List ℕ → List ℕ

@@ -5,3 +5,4 @@ pub mod Question
 pub mod InBytes
 pub mod Sizes
 pub mod Laid
+pub mod Laws

@@ -1,4 +1,4 @@
--- "A question is five records, each after its two letters as mark, in this order and then the end": LB, SI or SJ, EV, RD, LN.
+-- "A question is five records, each after its two letters as mark, in this order and then the end": LB or LC, SI or SJ, EV, RD, LN.
 use Prim.Native.Nat.{ℕ}
 use mathlib.Core.List.{List}
 use Rattle.block.specs.declared.line.Plan.{Plan}

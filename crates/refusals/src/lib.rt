@@ -1,17 +1,23 @@
 // What refuses each event, own being the station that the event names: "Checks run in the order written; the first that fails
-// gives the refusal."
+// gives the refusal." Of AFBLI, AFBLE, BILC and BSLB what refuses it in 2024, and apart from it what 2012 adds.
 ghost use mathlib.Core.Path.{_≡_};
 ghost use mathlib.Core.Bool.{not};
 ghost use Rattle.words.specs.Words.{_and_, if_then_else_};
 ghost use Rattle.refusals.specs.InOrder.{check};
-ghost use Rattle.rulebook.specs.Situation.{_is-in, _has-exit-route, track-free};
+ghost use Rattle.rulebook.specs.Situation.{station, _is-in, _annulled, _has-exit-route, track-free};
+ghost use Rattle.rulebook.specs.Place.{held-in-area};
 ghost use Rattle.rulebook.specs.Table.{Sobb, Cobb, Afbli, Afble, Dafbl, Bilc, Dilc, Bslg, BslgOff, Bslb, BslbOff, Reminder, ReminderOff, ExitNormal, ExitSpecial, ExitReleased, Entry, EntryReleased, Occupied, Freed, LinkLost, LinkRestored, Second};
 ghost use Rattle.rulebook.specs.Apply.{refuses};
+ghost use Rattle.rulebook.specs.Editions.{kind-in-2024};
 ghost use Rattle.situation.specs.Packed.{unpacked};
 use block::event::Spot;
+use block::line::Name;
+use block::line::Plan;
 use block::refused::ALREADY;
 use block::refused::ANNULLED;
 use block::refused::BILC;
+use block::refused::BSLB;
+use block::refused::BSLG;
 use block::refused::ENTRY_ROUTE;
 use block::refused::EXIT_ROUTE;
 use block::refused::LINK_DOWN;
@@ -67,7 +73,7 @@ pub fn cobb_refusal(x: Situation, at: Spot) -> u8
 }
 
 pub fn afbli_refusal(x: Situation, at: Spot) -> u8
-    ensures { λ r. ⌜ r ≡ refuses Afbli at (unpacked x) ⌝ }
+    ensures { λ r. ⌜ r ≡ refuses (kind-in-2024 Afbli) at (unpacked x) ⌝ }
 {
     let own = x.own();
     let r = check(0, ANNULLED, own.annulled());
@@ -76,7 +82,7 @@ pub fn afbli_refusal(x: Situation, at: Spot) -> u8
 }
 
 pub fn afble_refusal(x: Situation, at: Spot) -> u8
-    ensures { λ r. ⌜ r ≡ refuses Afble at (unpacked x) ⌝ }
+    ensures { λ r. ⌜ r ≡ refuses (kind-in-2024 Afble) at (unpacked x) ⌝ }
 {
     let own = x.own();
     let r = afbli_refusal(x, at);
@@ -91,7 +97,7 @@ pub fn dafbl_refusal(x: Situation, at: Spot) -> u8
 }
 
 pub fn bilc_refusal(x: Situation, at: Spot) -> u8
-    ensures { λ r. ⌜ r ≡ refuses Bilc at (unpacked x) ⌝ }
+    ensures { λ r. ⌜ r ≡ refuses (kind-in-2024 Bilc) at (unpacked x) ⌝ }
 {
     let own = x.own();
     let r = check(0, ALREADY, own.has_bilc());
@@ -121,7 +127,7 @@ pub fn bslg_off_refusal(x: Situation, at: Spot) -> u8
 }
 
 pub fn bslb_refusal(x: Situation, at: Spot) -> u8
-    ensures { λ r. ⌜ r ≡ refuses Bslb at (unpacked x) ⌝ }
+    ensures { λ r. ⌜ r ≡ refuses (kind-in-2024 Bslb) at (unpacked x) ⌝ }
 {
     let d = at.direction;
     refuse(ALREADY, has(x.held(d), at.section as u16), 0)
@@ -241,4 +247,22 @@ pub fn second_refusal(x: Situation, at: Spot) -> u8
     ensures { λ r. ⌜ r ≡ refuses Second at (unpacked x) ⌝ }
 {
     0
+}
+
+// (02, Req 05) "2012 only: for AFBLI and AFBLE after all checks in 01, 11 BILC, 16 BSLG, 17 BSLB, in that order", at the station s.
+pub fn excluded_refusal(plan: Plan, x: Situation, s: Name) -> u8
+    ensures { λ r. ⌜ r ≡ (if station (unpacked x) s .bilc then 11 else if station (unpacked x) s .bslg then 16 else if held-in-area plan s (unpacked x) then 17 else 0) ⌝ }
+{
+    let own = x.station(s);
+    let held = refuse(BSLB, x.held_in_area(plan, s), 0);
+    let guarded = refuse(BSLG, own.has_bslg(), held);
+    refuse(BILC, own.has_bilc(), guarded)
+}
+
+// "2012 only: .. for BILC and BSLB, 8 own annulled, after all else", own being the station s.
+pub fn annulled_refusal(x: Situation, s: Name) -> u8
+    ensures { λ r. ⌜ r ≡ (if station (unpacked x) s annulled then 8 else 0) ⌝ }
+{
+    let own = x.station(s);
+    refuse(ANNULLED, own.annulled(), 0)
 }

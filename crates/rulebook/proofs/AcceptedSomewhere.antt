@@ -1,7 +1,8 @@
--- Each event is accepted from some sound situation of the plan 4, 2: a line for each code, and one computed test. Assumes nothing.
+-- Each event is accepted from some sound situation of the plan 4, 2 of either edition: a line for each code, and one computed test for each edition.
+-- Assumes nothing.
 use Prim.Native.Nat.{ℕ}
 use mathlib.Core.Bool.{Bool, true, false}
-use mathlib.Core.Path.{subst}
+use mathlib.Core.Path.{refl, subst}
 use lib.Dec.{T, eqb, eqb→eq}
 use Rattle.words.specs.Words.{_and_, if_then_else_}
 use Rattle.words.proofs.Tests.{and-at}
@@ -14,8 +15,8 @@ use Rattle.block.specs.declared.line.Direction.the-variants.{TowardsB}
 use Rattle.rulebook.proofs.InTable.{All, by-test, at-code, its-code}
 use Rattle.rulebook.specs.Laws.{AcceptedSomewhere}
 
-plan : Plan
-plan = record { sections = 4; frontier = 2 }
+plan : Bool → Plan
+plan rules2012 = record { sections = 4; frontier = 2; rules2012 = rules2012 }
 
 -- A oriented out, B in
 abbrev towards-B : Kept
@@ -42,21 +43,24 @@ from c =
 abbrev with-argument : ℕ → ℕ
 with-argument c = if eqb (kind-of c .argument) 2 then 2 else if eqb (kind-of c .argument) 3 then 2 else 0
 
-abbrev refusal-there : ℕ → ℕ
-refusal-there c = applied plan (from c) (event c (with-argument c)) .refusal
+abbrev refusal-there : Bool → ℕ → ℕ
+refusal-there v c = applied (plan v) (from c) (event c (with-argument c)) .refusal
 
-fits : Kind → Bool
-fits k = sound plan (from (k .code)) and eqb (refusal-there (k .code)) 0
+abbrev fits-at : Bool → ℕ → Bool
+fits-at v c = sound (plan v) (from c) and eqb (refusal-there v c) 0
 
-all-fit : All (λ k. T (fits k)) table
+fits : Bool → Kind → Bool
+fits v k = fits-at v (k .code)
+
+all-fit : (v : Bool) → All (λ k. T (fits v k)) table
 unfolding plan fits stepped acted refusal-at
-all-fit = by-test fits table tt
+all-fit true = by-test (fits true) table tt
+all-fit false = by-test (fits false) table tt
 
 pub accepted-somewhere : AcceptedSomewhere
 unfolding plan fits
-accepted-somewhere e ok =
+accepted-somewhere v e ok =
     let c : ℕ = e .code in
-    let fit : T (fits (kind-of c)) = at-code (λ k. T (fits k)) all-fit c ok in
-    let here : T (sound plan (from c) and eqb (refusal-there c) 0) = subst (λ (n : ℕ). T (sound plan (from n) and eqb (refusal-there n) 0)) (its-code c ok) fit in
-    let h = and-at (sound plan (from c)) (eqb (refusal-there c) 0) here in
-    record { plan = plan; situation = from c; argument = with-argument c; is-plan = tt; is-sound = h .0; is-accepted = eqb→eq (refusal-there c) 0 (h .1) }
+    let here : T (fits-at v c) = subst (λ (n : ℕ). T (fits-at v n)) (its-code c ok) (at-code (λ k. T (fits v k)) (all-fit v) c ok) in
+    let h = and-at (sound (plan v) (from c)) (eqb (refusal-there v c) 0) here in
+    record { plan = plan v; of-edition = refl; situation = from c; argument = with-argument c; is-plan = tt; is-sound = h .0; is-accepted = eqb→eq (refusal-there v c) 0 (h .1) }

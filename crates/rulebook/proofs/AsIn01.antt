@@ -14,7 +14,8 @@ use Rattle.rulebook.specs.Table.{Kind, ExitNormal, ExitSpecial, table, k
 use Rattle.rulebook.specs.Apply.{refuses, leads, refusal-at, led-at, known, argument-right, spot, own-refusal, reached, accepted, refused, acted, stepped, Outcome}
 use Rattle.block.specs.declared.event.Spot.{Spot}
 use Rattle.rulebook.proofs.InTable.{Known, by-test, at-code, its-code}
-use Rattle.rulebook.specs.Laws.{kind-in-01, refusal-in-01, stepped-in-01, number-in-01, RefusedAsIn01}
+use Rattle.rulebook.specs.Editions.{refusal-by, reached-by, stepped-by}
+use Rattle.rulebook.specs.Laws.{kind-in-01, number-in-01, RefusedAsIn01}
 
 -- ---- numbers
 -- a check that both rows have
@@ -126,9 +127,9 @@ step-alike true false r s x y z h = refl
 step-alike true true r s x y z h = own-alike r s x y z (h tt .0) (h tt .1)
 
 pub refused-as-in-01 : RefusedAsIn01
-unfolding stepped-in-01 stepped acted refusal-at led-at
+unfolding stepped-by stepped acted refusal-at led-at
 refused-as-in-01 p x e =
     let at : Spot = spot p e in
     let seen : Situation = seen-from (at .own) x in
-    step-alike (known e) (argument-right p e) (own-refusal p x e) (refusal-in-01 p x e) x (reached p x e) _
+    step-alike (known e) (argument-right p e) (own-refusal p x e) (refusal-by kind-in-01 p x e) x (reached p x e) (reached-by kind-in-01 p x e)
     (λ k. let same = alike at seen (e .code) k in (same .refused, ap (kept-from (at .own)) (same .led)))

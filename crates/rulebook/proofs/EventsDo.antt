@@ -29,7 +29,7 @@ use Rattle.rulebook.proofs.InTable.{All, Known, at-code, its-code}
 use Rattle.rulebook.proofs.Every.{everywhere-at}
 use Rattle.rulebook.proofs.Accepted.{passed}
 use Rattle.rulebook.proofs.Placed.{Placed, placed}
-use Rattle.rulebook.proofs.SoundnessKept.{parts, seen-sound}
+use Rattle.rulebook.proofs.SoundnessKept.{seen-sound}
 use Rattle.rulebook.specs.Laws.{a-second-passed, deeds, says, so-at, EventsDo, EventsChange}
 
 -- an event of the kind that is accepted, as own sees it
@@ -199,7 +199,7 @@ module _ (q : Plan) (plan : T (isPlan q)) (x : Kept) (e : Event) (t : T (sound q
   unfolding refusal-at led-at
   reached-done ok right a =
       let k : Kind = kind-of (e .code) in
-      let does = at-code Does all-do (e .code) ok at seen (record { passes = a; stations = parts q seen (seen-sound q (at .own) x t) .stations; placed = placed q (plan-short q plan) (k .argument) (e .argument) right; acts = subst (λ (c : ℕ). T (not (a-second-passed c))) (sym (its-code (e .code) ok)) acts }) in
+      let does = at-code Does all-do (e .code) ok at seen (record { passes = a; stations = seen-sound q (at .own) x t .stations; placed = placed q (plan-short q plan) (k .argument) (e .argument) right; acts = subst (λ (c : ℕ). T (not (a-second-passed c))) (sym (its-code (e .code) ok)) acts }) in
       let named : (y : Situation) → so k at y ≡ says (e .code) deeds at y = λ y. ap (λ (c : ℕ). says c deeds at y) (its-code (e .code) ok) in
       (sym (named seen) ∙ does .0, ap (says (e .code) deeds at) (seen-twice (at .own) (leads k at seen)) ∙ sym (named (leads k at seen)) ∙ does .1)
 

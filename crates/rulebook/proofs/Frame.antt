@@ -9,9 +9,10 @@ use Rattle.words.proofs.Tests.{and-at}
 use Rattle.sections.specs.Sections.{_with-section_, _without-section_}
 use Rattle.rulebook.specs.Checks.{effect}
 use Rattle.rulebook.specs.Place.{Place}
-use Rattle.rulebook.specs.Situation.{Track, Signals, Situation, own-sobb, no-watch, withWatch, withHeld, held-towards, with-held-towards, any-exit-route, _has-exit-route}
-use Rattle.rulebook.specs.Events.{watch-taken, still-occupied, watch-freed, watch-lowered}
-use Rattle.rulebook.specs.Table.{Kind, Sobb, Bslb, BslbOff, ExitNormal, ExitSpecial, ExitReleased, Occupied, Freed, Second, table, section, signal, kind-of}
+use Rattle.rulebook.specs.Situation.{Station, Track, Signals, Situation, no-annulment, own-sobb, no-watch, withWatch, withHeld, held-towards, with-held-towards, any-exit-route, _annulled, _annulled-by_, _has-exit-route}
+use Rattle.rulebook.specs.Events.{annulment-kept, watch-taken, still-occupied, watch-freed, watch-lowered}
+use Rattle.rulebook.specs.Table.{Kind, Sobb, Dafbl, Bilc, Dilc, Bslg, BslgOff, Bslb, BslbOff, ExitNormal, ExitSpecial, ExitReleased, Occupied, Freed, Second, table, section, signal, kind-of}
+use Rattle.rulebook.specs.Laws.{AFBLI-or-AFBLE}
 use Rattle.block.specs.declared.codes.Pending.{Pending}
 use Rattle.rulebook.proofs.InTable.{All, Known, each-all, by-equation, by-test, at-code}
 
@@ -70,11 +71,57 @@ signals-after code at s =
     then withHeld (with-held-towards (at .direction) (held-after code (at .section) (held-towards (at .direction) (s .held))) (s .held)) s
     else s
 
+-- ---- (02, Req 05) what 2012 keeps apart of a station: whether it is annulled, BILC and BSLG. What an event does to own's; it leaves the other's
+pub record Orders : Type 0 where
+  pub annulment : Bool
+  pub bilc : Bool
+  pub bslg : Bool
+
+abbrev pub orders : Station → Orders
+orders t = record { annulment = t annulled; bilc = t .bilc; bslg = t .bslg }
+
+pub data Order : Type 0 where
+  annuls : Order
+  lifts : Order
+  writes-bilc : Bool → Order
+  writes-bslg : Bool → Order
+  may-lift : Order
+  orders-nothing : Order
+
+abbrev pub order : ℕ → Order
+order code =
+    if AFBLI-or-AFBLE code then annuls else
+    if eqb code (Dafbl .code) then lifts else
+    if eqb code (Bilc .code) then writes-bilc true else
+    if eqb code (Dilc .code) then writes-bilc false else
+    if eqb code (Bslg .code) then writes-bslg true else
+    if eqb code (BslgOff .code) then writes-bslg false else
+    if eqb code (Occupied .code) then may-lift else
+    orders-nothing
+
+-- own, as an unexpected occupation leaves it
+abbrev pub perhaps-lifted : Place → Situation → Station
+perhaps-lifted at x = x .traffic .own annulled-by (if annulment-kept at x then x .traffic .own .annulment else no-annulment)
+
+module _ (at : Place) (x : Situation) where
+  abbrev own : Orders
+  own = orders (x .traffic .own)
+
+  abbrev pub orders-after : Order → Orders
+  orders-after annuls = record { annulment = true; bilc = own .bilc; bslg = own .bslg }
+  orders-after lifts = record { annulment = false; bilc = own .bilc; bslg = own .bslg }
+  orders-after (writes-bilc v) = record { annulment = own .annulment; bilc = v; bslg = own .bslg }
+  orders-after (writes-bslg v) = record { annulment = own .annulment; bilc = own .bilc; bslg = v }
+  orders-after may-lift = record { annulment = perhaps-lifted at x annulled; bilc = own .bilc; bslg = own .bslg }
+  orders-after orders-nothing = own
+
 -- ---- of one event, at a place
 pub record Framed (e : Kind) (at : Place) (x : Situation) : Type 0 where
   pub track : effect (e .row at x) .traffic .track ≡ track-after (touch (e .code)) at x
   pub routed : any-exit-route (effect (e .row at x)) ≡ routed-after (touch (e .code)) x
   pub signals : effect (e .row at x) .signals ≡ signals-after (e .code) at (x .signals)
+  pub own : orders (effect (e .row at x) .traffic .own) ≡ orders-after at x (order (e .code))
+  pub other : orders (effect (e .row at x) .traffic .other) ≡ orders (x .traffic .other)
   -- no row writes pending but SOBB's
   pub pending : effect (e .row at x) .traffic .pending ≡ (if eqb (e .code) (Sobb .code) then own-sobb else x .traffic .pending)
 
@@ -93,12 +140,18 @@ framed c ok at x =
     let routed′ : Of Bool = λ e at x. routed-after (touch (e .code)) x in
     let signals : Of Signals = λ e at x. effect (e .row at x) .signals in
     let signals′ : Of Signals = λ e at x. signals-after (e .code) at (x .signals) in
+    let own : Of Orders = λ e at x. orders (effect (e .row at x) .traffic .own) in
+    let own′ : Of Orders = λ e at x. orders-after at x (order (e .code)) in
+    let other : Of Orders = λ e at x. orders (effect (e .row at x) .traffic .other) in
+    let other′ : Of Orders = λ e at x. orders (x .traffic .other) in
     let pending : Of Pending = λ e at x. effect (e .row at x) .traffic .pending in
     let pending′ : Of Pending = λ e at x. if eqb (e .code) (Sobb .code) then own-sobb else x .traffic .pending in
     record {
       track = frame track track′ (by-equation track track′ table refl) c ok at x;
       routed = frame routed routed′ (by-equation routed routed′ table refl) c ok at x;
       signals = frame signals signals′ (by-equation signals signals′ table refl) c ok at x;
+      own = frame own own′ (by-equation own own′ table refl) c ok at x;
+      other = frame other other′ (by-equation other other′ table refl) c ok at x;
       pending = frame pending pending′ (by-equation pending pending′ table refl) c ok at x;
     }
 

@@ -12,6 +12,8 @@ pub mod Placed
 pub mod SetsKept
 pub mod WatchKept
 pub mod Accepted
+pub mod Editions
+pub mod ExclusionsKept
 pub mod SoundnessKept
 pub mod WatchRight
 pub mod CountKeeps
@@ -25,5 +27,6 @@ pub mod OneDirection
 pub mod NotBothOut
 pub mod StepsAgree
 pub mod AsIn01
+pub mod In2012
 pub mod LowestSection
 pub mod NamesRight

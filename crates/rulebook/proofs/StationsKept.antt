@@ -29,7 +29,7 @@ otherwise-at false k t n = n t
 
 -- ---- what rows read that soundness does not speak of: what is told of the line, and own's reminder
 abbrev told : Place → Bool → Bool → Bool → Place
-told at free first expected = record { plan = at .plan; own = at .own; section = at .section; direction = at .direction; first = first; expected = expected; track-free = free }
+told at free first expected = record { plan = at .plan; own = at .own; section = at .section; direction = at .direction; first = first; expected = expected; track-free = free; held-here = at .held-here }
 
 abbrev reminded : Situation → Bool → Situation
 reminded x m = withOwn (withReminder m (x .traffic .own)) x

@@ -7,7 +7,7 @@ use borrow.Author.Tests.{eq-eqb, ne-eqb, eqb-true, eqb-false, le-leb}
 use lib.Bits.{and-zero-l, xor-zero-l}
 use lib.Dec.{T, eqb, leb→le}
 use Rattle.words.specs.Words.{_and_, _or_, _implies_, if_then_else_}
-use Rattle.words.proofs.Tests.{holds-is, fails-is, is-holds, and-at, and-of, or-turned}
+use Rattle.words.proofs.Tests.{holds-is, fails-is, is-holds, and-at, and-of, both-off, or-turned}
 use Rattle.sections.specs.Sections.{none, _belongs-to_, only, _with-section_, _without-section_}
 use Rattle.sections.proofs.SetLaws.{has-with-same, none-has}
 use Rattle.rulebook.specs.Place.{Place}
@@ -81,10 +81,6 @@ module _ (t : Track) (routed : Bool) where
       (one-of (none-occupied t) (count-runs (t .watch)) (λ z. is-holds (count-runs (t .watch)) (runs (t .watch .count) (w .lasting e (eqb-true (t .occupied) none z))))))
 
 -- ---- an event
-both-off : (a b : Bool) → (a or b) ≡ false → b ≡ false
-both-off true b e = absurd (true≢false e)
-both-off false b e = e
-
 -- the mark is set where it was, or by an occupation with no exit route
 marked-unrouted : (mark unexpected routed : Bool) → (mark or (unexpected and not routed)) ≡ true → (mark ≡ true → routed ≡ false) → routed ≡ false
 marked-unrouted true u r e f = f refl
@@ -152,7 +148,7 @@ module _ (at : Place) (x : Situation) (w : Watched (x .traffic .track) (any-exit
   after : (t : Touch) → (T (of-section t) → at .section < 49) → After t
   after sets-route f = record { low = omega arith; explained = λ d. absurd (d refl); unrouted = λ m. absurd (false≢true m); lasting = λ m o z. false≢true m }
   after releases-route f =
-      record { low = w .low; explained = w .explained; unrouted = λ m. both-off (x .traffic .own has-exit-route) (x .traffic .other has-exit-route) (w .unrouted m); lasting = w .lasting }
+      record { low = w .low; explained = w .explained; unrouted = λ m. both-off (x .traffic .own has-exit-route) (x .traffic .other has-exit-route) (w .unrouted m) .1; lasting = w .lasting }
   after takes f =
       record {
         low = omega arith;

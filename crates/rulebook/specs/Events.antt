@@ -45,6 +45,10 @@ module _ (at : Place) (x : Situation) where
   abbrev track-not-free : Bool
   track-not-free = not (at .track-free)
 
+  -- (02, Req 05) "for the 2012 rules"
+  abbrev in-2012 : Bool
+  in-2012 = at .plan .rules2012
+
   abbrev k : ℕ
   k = at .section
 
@@ -91,20 +95,29 @@ module _ (at : Place) (x : Situation) where
       ┃ 9 when own has-exit-route
       ┃ rest
 
+  -- (02, Req 05) "2012 only: for AFBLI and AFBLE after all checks in 01, 11 BILC, 16 BSLG, 17 BSLB, in that order"
+  abbrev pub excluded : Row → Row
+  excluded rest =
+      11 when in-2012 and own .bilc
+      ┃ 16 when in-2012 and own .bslg
+      ┃ 17 when in-2012 and at .held-here
+      ┃ rest
+
   abbrev pub afbli : Row
-  afbli = checked-as-3 (⟶ annul AFBLI)
+  afbli = checked-as-3 (excluded (⟶ annul AFBLI))
 
   -- | 4 | AFBLE | as 3, then 10 own entry route | own annulment 2 |
   abbrev pub afble : Row
-  afble = checked-as-3 (10 when own .entry ┃ ⟶ annul AFBLE)
+  afble = checked-as-3 (10 when own .entry ┃ excluded (⟶ annul AFBLE))
 
   -- | 5 | DAFBL | 5 not annulled | annulment 0 |
   abbrev pub dafbl : Row
   dafbl = 5 when not (own annulled) ┃ ⟶ withOwn (own annulled-by no-annulment) x
 
   -- | 6, 7 | BILC, DILC | 5; for BILC then 9 own exit route | set, clear |
+  -- (02, Req 05) "2012 only: .. for BILC and BSLB, 8 own annulled, after all else"
   abbrev pub bilc : Row
-  bilc = 5 when own .bilc ┃ 9 when own has-exit-route ┃ ⟶ withOwn (withBilc true own) x
+  bilc = 5 when own .bilc ┃ 9 when own has-exit-route ┃ 8 when in-2012 and own annulled ┃ ⟶ withOwn (withBilc true own) x
 
   abbrev pub dilc : Row
   dilc = 5 when not (own .bilc) ┃ ⟶ withOwn (withBilc false own) x
@@ -118,7 +131,7 @@ module _ (at : Place) (x : Situation) where
 
   -- | 10, 11 | BSLB, its release (argument: block signal) | 5 | set, clear |; the signal covers section k
   abbrev pub bslb : Row
-  bslb = 5 when (k belongs-to held) ┃ ⟶ with-held (at .direction) (held with-section k) x
+  bslb = 5 when (k belongs-to held) ┃ 8 when in-2012 and own annulled ┃ ⟶ with-held (at .direction) (held with-section k) x
 
   abbrev pub bslb-off : Row
   bslb-off = 5 when not (k belongs-to held) ┃ ⟶ with-held (at .direction) (held without-section k) x

@@ -7,18 +7,20 @@ use mathlib.Core.Path.{_≡_}
 use lib.Dec.{T, eqb}
 use Rattle.words.specs.Words.{_and_, _or_, if_then_else_}
 use Rattle.sections.specs.Sections.{_belongs-to_, only}
-use Rattle.block.specs.Line.{isPlan, is-section, opposite}
-use Rattle.rulebook.specs.Situation.{Station, Situation, Kept, areaDirection, fresh, nobody, seen-from, station, held, any-exit-route, both-out, none-occupied, count-runs, track-free, line-free, withStations, withTrack, withWatch, normal, special, _is-out, _is-in, _is-none, _annulled, _under-AFBLI, _under-AFBLE, _has-exit-route}
-use Rattle.rulebook.specs.Sound.{stationSound, sound}
+use Rattle.block.specs.Line.{isPlan, is-section, owner, opposite}
+use Rattle.rulebook.specs.Situation.{Station, Situation, Kept, areaDirection, fresh, nobody, seen-from, kept-from, station, held, any-exit-route, both-out, none-occupied, count-runs, track-free, line-free, withStations, withTrack, withWatch, normal, special, _is-out, _is-in, _is-none, _annulled, _under-AFBLI, _under-AFBLE, _has-exit-route}
+use Rattle.rulebook.specs.Sound.{stationSound, sound-in-2024, sound}
 use Rattle.rulebook.specs.Checks.{Row, ⟶_, _┃_, _when_, enough-when_}
 use Rattle.rulebook.specs.Place.{Place, expected}
 use Rattle.rulebook.specs.Events.{exit}
 use Rattle.rulebook.specs.Table.{Kind, kind, keeps, Sobb, Cobb, Afbli, Afble, Dafbl, Bilc, Dilc, Bslg, BslgOff, Bslb, BslbOff, Reminder, ReminderOff, ExitNormal, ExitSpecial, ExitReleased, Entry, EntryReleased, Occupied, Freed, LinkLost, LinkRestored, Second, kind-of}
-use Rattle.rulebook.specs.Apply.{refuses, leads, refusal-at, led-at, event, known, argument-right, spot, own-refusal, accepted, refused, stepped, applied, Outcome, along, after-events}
+use Rattle.rulebook.specs.Apply.{refuses, leads, event, known, argument-right, spot, own-refusal, reached, refused, stepped, applied, Outcome, along, after-events}
+use Rattle.rulebook.specs.Editions.{kind-in-2024, stepped-by, added-in-2012}
 use Rattle.rulebook.specs.Names.{station-argument, name}
 use Rattle.block.specs.declared.line.Plan.{Plan}
 use Rattle.block.specs.declared.line.Name.{Name}
 use Rattle.block.specs.declared.line.Name.the-variants.{StationA, StationB}
+use Rattle.block.specs.declared.line.Direction.{Direction}
 use Rattle.block.specs.declared.event.Event.{Event}
 use Rattle.block.specs.declared.event.Spot.{Spot}
 use Rattle.block.specs.declared.codes.Orientation.{Orientation}
@@ -28,14 +30,14 @@ use Rattle.block.specs.declared.codes.Pending.{Pending}
 abbrev pub SoundnessKept : Type 0
 SoundnessKept = (p : Plan) → T (isPlan p) → (x : Kept) (e : Event) → T (sound p x) → T (sound p (applied p x e .next))
 
--- so of what the methods hand back, as own sees it: sound wherever the event is accepted in a sound situation
+-- so of what the methods hand back, which own sees, kept again: sound wherever the event is accepted in a sound situation
 abbrev pub MethodsSound : Type 0
 MethodsSound =
     (p : Plan) → T (isPlan p) → (x : Kept) (e : Event) → T (sound p x) → T (known e) → T (argument-right p e) →
     let kind = kind-of (e .code) in
     let at = spot p e in
     let seen = seen-from (at .own) x in
-    refuses kind at seen ≡ 0 → T (sound p (leads kind at seen))
+    refuses kind at seen ≡ 0 → T (sound p (kept-from (at .own) (leads kind at seen)))
 
 -- "The fresh one: link 1, all else 0." It is sound
 abbrev pub FreshSound : Type 0
@@ -45,9 +47,10 @@ FreshSound = (p : Plan) → T (sound p fresh)
 abbrev pub RefusedUnchanged : Type 0
 RefusedUnchanged = (p : Plan) (x : Kept) (e : Event) → (applied p x e .refusal ≡ 0 → ⊥) → applied p x e .next ≡ x
 
--- no event is refused always: each has a sound situation in which it is accepted
-pub record Accepted (c : ℕ) : Type 0 where
+-- no event is refused always: in either edition each has a sound situation in which it is accepted
+pub record Accepted (rules2012 : Bool) (c : ℕ) : Type 0 where
   pub plan : Plan
+  pub of-edition : plan .rules2012 ≡ rules2012
   pub situation : Kept
   pub argument : ℕ
   pub is-plan : T (isPlan plan)
@@ -55,7 +58,7 @@ pub record Accepted (c : ℕ) : Type 0 where
   pub is-accepted : applied plan situation (event c argument) .refusal ≡ 0
 
 abbrev pub AcceptedSomewhere : Type 0
-AcceptedSomewhere = (e : Event) → T (known e) → Accepted (e .code)
+AcceptedSomewhere = (rules2012 : Bool) (e : Event) → T (known e) → Accepted rules2012 (e .code)
 
 -- ---- an accepted event does what it says: it was not so before, and it is so after; x is the situation as own sees it. A second that passes
 -- changes nothing where no count runs: it is left out here, and WatchRule says what it does
@@ -215,17 +218,8 @@ kind-in-01 k =
     if eqb (k .code) (ExitSpecial .code) then kind (ExitSpecial .code) (ExitSpecial .argument) keeps exit-special-in-01 else
     k
 
--- a step by it
-module _ (p : Plan) (x : Kept) (e : Event) where
-  abbrev pub refusal-in-01 : ℕ
-  refusal-in-01 = refusal-at (kind-in-01 (kind-of (e .code))) (spot p e) x
-
-  unfoldable pub stepped-in-01 : Outcome
-  stepped-in-01 =
-      if not (known e) then refused 3 x else
-      if not (argument-right p e) then refused 4 x else
-      if eqb refusal-in-01 0 then accepted (led-at (kind-in-01 (kind-of (e .code))) (spot p e) x) else
-      refused refusal-in-01 x
+abbrev pub stepped-in-01 : Plan → Kept → Event → Outcome
+stepped-in-01 = stepped-by kind-in-01
 
 -- the refusal's number where 13 and 15 are one check: 13 where it is 15 now
 abbrev pub number-in-01 : ℕ → ℕ
@@ -363,3 +357,49 @@ TenSeconds =
     let freed = applied p x (event (Freed .code) k) .next in
     ((j : ℕ) → j < 10 → (line-free (seconds j p freed) ≡ false) × (seconds j p freed .traffic .track .watch .count ≡ 10 - j))
     × (line-free (seconds 10 p freed) ≡ true) × (seconds 10 p freed .traffic .track .watch .mark ≡ false)
+
+-- ---- (02, Req 05) "LB means 2024": by the four rows without the checks of 2012, and by soundness without its clause
+module _ (p : Plan) (x : Kept) where
+  abbrev pub judged-in-2024 : ℕ
+  judged-in-2024 = if isPlan p then (if sound-in-2024 p x then 0 else 2) else 1
+
+  abbrev pub applied-in-2024 : Event → Outcome
+  applied-in-2024 e = if eqb judged-in-2024 0 then stepped-by kind-in-2024 p x e else refused judged-in-2024 x
+
+-- in a plan of 2024 every event gives on every situation what it gives by these
+abbrev pub In2024AsBefore : Type 0
+In2024AsBefore = (p : Plan) → p .rules2012 ≡ false → (x : Kept) (e : Event) → applied p x e ≡ applied-in-2024 p x e
+
+-- the same line by the rules of 2024
+abbrev pub in-2024 : Plan → Plan
+in-2024 p = record { sections = p .sections; frontier = p .frontier; rules2012 = false }
+
+-- in 2012 an event is refused for what it is refused for in 2024; what the sentence adds comes after; and it leads where it leads in 2024
+pub record Added (p : Plan) (x : Kept) (e : Event) : Type 0 where
+  pub refused-so : own-refusal p x e ≡ (if eqb (own-refusal (in-2024 p) x e) 0 then added-in-2012 p x e else own-refusal (in-2024 p) x e)
+  pub leads-as-ever : reached p x e ≡ reached (in-2024 p) x e
+
+abbrev pub AddedIn2012 : Type 0
+AddedIn2012 = (p : Plan) → p .rules2012 ≡ true → (x : Kept) (e : Event) → Added p x e
+
+-- ---- "Under 2012, AFBLI and AFBLE exclude BILC, BSLG and any BSLB in the station's own area, whichever comes first."
+pub record Excludes (p : Plan) (x : Kept) (s : Name) : Type 0 where
+  pub no-bilc : station x s .bilc ≡ false
+  pub no-bslg : station x s .bslg ≡ false
+  pub no-bslb : (k : ℕ) → is-section p k ≡ true → owner p k ≡ s → (d : Direction) → (k belongs-to held x d) ≡ false
+
+abbrev pub annulled-exclude : Plan → Kept → Type 0
+annulled-exclude p x = (s : Name) → (station x s annulled) ≡ true → Excludes p x s
+
+-- "In that edition a situation with such a pair is not sound.", and every other one that is sound in 2024 is
+pub record SoundExactly (p : Plan) (x : Kept) : Type 0 where
+  pub excludes : T (sound p x) → T (sound (in-2024 p) x) × annulled-exclude p x
+  pub enough : T (sound (in-2024 p) x) → annulled-exclude p x → T (sound p x)
+
+abbrev pub SoundIn2012 : Type 0
+SoundIn2012 = (p : Plan) → p .rules2012 ≡ true → (x : Kept) → SoundExactly p x
+
+-- no events from a sound situation, refused ones included, lead to an annulled station with one of them
+abbrev pub WhicheverComesFirst : Type 0
+WhicheverComesFirst =
+    (p : Plan) → T (isPlan p) → p .rules2012 ≡ true → (x : Kept) → T (sound p x) → (events : List Event) → annulled-exclude p (after-events p x events)

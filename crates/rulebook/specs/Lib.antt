@@ -8,4 +8,5 @@ pub mod Events
 pub mod Table
 pub mod Apply
 pub mod Names
+pub mod Editions
 pub mod Laws

@@ -4,8 +4,11 @@ use lib.Dec.{leb}
 use Rattle.words.specs.Words.{_and_, _or_, _implies_}
 use Rattle.sections.specs.Sections.{_belongs-to_, sections-up-to}
 use Rattle.block.specs.Line.{first-section, entrance}
-use Rattle.rulebook.specs.Situation.{Station, Track, Situation, Kept, _is-out, _is-in, _is-none, _annulled, _under-AFBLI, _has-exit-route, any-exit-route, none-occupied, count-runs, one-out-one-in, both-none, held}
+use Rattle.rulebook.specs.Place.{held-in-area}
+use Rattle.rulebook.specs.Situation.{Station, Track, Situation, Kept, station, _is-out, _is-in, _is-none, _annulled, _under-AFBLI, _has-exit-route, any-exit-route, none-occupied, count-runs, one-out-one-in, both-none, held}
 use Rattle.block.specs.declared.line.Plan.{Plan}
+use Rattle.block.specs.declared.line.Name.{Name}
+use Rattle.block.specs.declared.line.Name.the-variants.{StationA, StationB}
 use Rattle.block.specs.declared.line.Direction.{Direction}
 use Rattle.block.specs.declared.line.Direction.the-variants.{TowardsA, TowardsB}
 
@@ -71,6 +74,10 @@ module _ (t : Track) (routed : Bool) where
 abbrev pub watchSound : Situation → Bool
 watchSound x = watched-right (x .traffic .track) (any-exit-route x)
 
+-- (02, Req 05) "Under 2012, AFBLI and AFBLE exclude BILC, BSLG and any BSLB in the station's own area": of the station t, which is s
+abbrev pub such-a-pair : Plan → Name → Station → Situation → Bool
+such-a-pair p s t x = t annulled and (t .bilc or t .bslg or held-in-area p s x)
+
 module _ (p : Plan) (x : Kept) where
   -- "A set bit that names .. no section or an exit signal gives 2." BSLB holds block signals only
   abbrev pub held-sound : Direction → Bool
@@ -79,5 +86,13 @@ module _ (p : Plan) (x : Kept) where
   abbrev pub setsSound : Bool
   setsSound = sections-up-to (p .sections) (x .traffic .track .occupied) and held-sound TowardsB and held-sound TowardsA
 
+  -- what document 01 and request 02 ask
+  abbrev pub sound-in-2024 : Bool
+  sound-in-2024 = stationsSound x and setsSound and watchSound x
+
+  -- "In that edition a situation with such a pair is not sound."
+  abbrev pub exclusions-kept : Bool
+  exclusions-kept = p .rules2012 implies not (such-a-pair p StationA (station x StationA) x or such-a-pair p StationB (station x StationB) x)
+
   abbrev pub sound : Bool
-  sound = stationsSound x and setsSound and watchSound x
+  sound = sound-in-2024 and exclusions-kept

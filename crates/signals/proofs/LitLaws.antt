@@ -4,14 +4,15 @@ use mathlib.Core.Path.{_≡_, refl, sym, ap, ap₂, subst, _∙_}
 use mathlib.Core.Bool.{Bool, true, false, not}
 use native.Mathlib.Omega.{arith}
 use native.Mathlib.Decide.{decLt, ℕ-discrete}
-use lib.Dec.{T, eqb, leb}
-use borrow.Author.Tests.{leb-true, eq-eqb, ne-eqb, le-leb, lt-leb}
+use lib.Dec.{T, eqb, ltb}
+use borrow.Author.Tests.{eq-eqb, ne-eqb, le-leb, lt-leb, lt-ltb}
 use Rattle.words.specs.Words.{_and_, _or_, if_then_else_}
 use Rattle.sections.specs.Sections.{none, _belongs-to_, only}
-use Rattle.sections.specs.Sets.{both, either, _minus_, up-to, one-down, one-up}
+use Rattle.sections.specs.Sets.{both, either, _minus_, one-down, one-up}
 use Rattle.sections.proofs.SetLaws.{none-has}
-use Rattle.sections.proofs.SetsOfSets.{in-both, in-either, in-minus, in-only, in-given, in-one-down, in-one-up, in-up-to}
-use Rattle.block.specs.Line.{isPlan, is-section, owner, first-section, is-exit, entrance, terminus, after, same-station, across-frontier}
+use Rattle.sections.proofs.SetsOfSets.{in-both, in-either, in-minus, in-only, in-given, in-one-down, in-one-up}
+use Rattle.block.specs.Line.{isPlan, is-section, in-area, owner, first-section, is-exit, entrance, terminus, after, same-station, across-frontier}
+use Rattle.block.specs.Areas.{AreaOf}
 use Rattle.block.proofs.PlanLaws.{Sized, sized, Within, within}
 use Rattle.rulebook.specs.Situation.{Kept, station, areaDirection, held, _has-exit-route}
 use Rattle.block.specs.declared.line.Plan.{Plan}
@@ -20,33 +21,24 @@ use Rattle.block.specs.declared.line.Name.the-variants.{StationA, StationB}
 use Rattle.block.specs.declared.line.Direction.{Direction}
 use Rattle.block.specs.declared.line.Direction.the-variants.{TowardsA, TowardsB}
 use Rattle.aspects.specs.Aspects.{runs, is-open}
-use Rattle.signals.specs.SignalSets.{those, off-line, in-area, leaves, arrives, block-lit, exit-lit, runs-somewhere, next-open, is-green, Moved, on-edge, number}
+use Rattle.signals.specs.SignalSets.{those, off-line, leaves, arrives, block-lit, exit-lit, runs-somewhere, next-open, is-green, Moved, on-edge, number}
 
 pub first-small : (p : Plan) (s : Name) → isPlan p ≡ true → first-section p s < 49
 first-small p StationA e = omega arith
 first-small p StationB e = let h : Sized p = sized p e in omega arith
 
--- ---- an area
-in-A : (v : Bool) → v ≡ same-station (if v then StationA else StationB) StationA
-in-A true = refl
-in-A false = refl
+-- ---- an area, of which a word has a bit for every section
+pub area-those : (p : Plan) (s : Name) (m : ℕ) → isPlan p ≡ true → AreaOf p s m → those p (in-area p s) m
+area-those p s m plan is k e =
+    let h : Sized p = sized p plan in
+    is k ∙ ap₂ (λ (v w : Bool). v and w and in-area p s k) (lt-ltb k 64 (omega (arith, within p k e .most, h .top))) e
 
-in-B : (v : Bool) → not v ≡ same-station (if v then StationA else StationB) StationB
-in-B true = refl
-in-B false = refl
+off-there : (v w : Bool) → (v and false and w) ≡ false
+off-there true w = refl
+off-there false w = refl
 
-pub area-A : (p : Plan) → those p (in-area p StationA) (up-to (p .frontier))
-area-A p k e =
-    in-up-to k (p .frontier)
-    ∙ ap (λ (v : Bool). v and leb k (p .frontier)) (le-leb 1 k (within p k e .least))
-    ∙ in-A (leb k (p .frontier))
-
-pub area-B : (p : Plan) → those p (in-area p StationB) (up-to (p .sections) minus up-to (p .frontier))
-area-B p k e =
-    in-minus k (up-to (p .sections)) (up-to (p .frontier))
-    ∙ ap₂ (λ (v w : Bool). v and not w) (in-up-to k (p .sections) ∙ e) (in-up-to k (p .frontier))
-    ∙ ap (λ (v : Bool). not (v and leb k (p .frontier))) (le-leb 1 k (within p k e .least))
-    ∙ in-B (leb k (p .frontier))
+pub area-off : (p : Plan) (s : Name) (m : ℕ) → AreaOf p s m → off-line p m
+area-off p s m is k e = is k ∙ ap (λ (v : Bool). ltb k 64 and v and in-area p s k) e ∙ off-there (ltb k 64) (in-area p s k)
 
 -- ---- block signals
 near-station : (a b c h : Bool) → (((a and not b) and true or c and false) and not h) ≡ (a and not h and not b)
@@ -265,14 +257,6 @@ module _ (p : Plan) where
 
   pub off-given : (v : Bool) (a : ℕ) → off-line p a → off-line p (if v then a else none)
   off-given v a h k e = in-given k v a ∙ ap (λ (w : Bool). v and w) (h k e) ∙ and-off v
-
-  pub off-up-to : (n : ℕ) → n ≤ p .sections → off-line p (up-to n)
-  off-up-to n h k e = in-up-to k n ∙ go (leb 1 k) (leb k n) refl refl
-    where
-      go : (v w : Bool) → leb 1 k ≡ v → leb k n ≡ w → (v and w) ≡ false
-      go false w f g = refl
-      go true false f g = refl
-      go true true f g = rw (f, le-leb k (p .sections) (omega (arith, leb-true k n g))) at e
 
   pub off-only : (j : ℕ) → j < 49 → is-section p j ≡ true → off-line p (only j)
   off-only j small inside k e = in-only k j small ∙ ne-eqb k j (λ (same : k ≡ j). subst T (sym inside ∙ ap (is-section p) (sym same) ∙ e) tt)

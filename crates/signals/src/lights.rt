@@ -7,7 +7,7 @@ ghost use Rattle.block.specs.Line.{isPlan, first-section};
 ghost use Rattle.block.specs.declared.line.Direction.the-variants.{TowardsA, TowardsB};
 ghost use Rattle.situation.specs.Packed.{station, unpacked};
 ghost use Rattle.aspects.specs.Aspects.{is-open, aspect};
-ghost use Rattle.signals.specs.SignalSets.{those, off-line, in-area, leaves, arrives, block-lit, exit-lit, runs-somewhere, next-open, is-green, on-edge, Moved, shown, shown-at};
+ghost use Rattle.signals.specs.SignalSets.{those, off-line, leaves, arrives, block-lit, exit-lit, runs-somewhere, next-open, is-green, on-edge, Moved, shown, shown-at};
 use block::line::Direction;
 use block::line::Name;
 use block::line::Plan;
@@ -21,7 +21,6 @@ use sections::minus;
 use sections::one_down;
 use sections::one_up;
 use sections::single;
-use sections::up_to;
 use situation::Situation;
 use situation::Station;
 use words::flag;
@@ -45,17 +44,6 @@ fn first(plan: Plan, s: Name) -> u64
 {
     let k = plan.first_section(s);
     single(k)
-}
-
-fn area(plan: Plan, s: Name) -> u64
-    requires { ⌜ isPlan plan ≡ true ⌝ }
-    ensures { λ r. ⌜ those plan (in-area plan s) r × off-line plan r ⌝ }
-{
-    let a = up_to(plan.frontier);
-    match s {
-        Name::StationA => a,
-        Name::StationB => minus(up_to(plan.sections), a),
-    }
 }
 
 // The area direction is out, and the station has no BSLG.
@@ -84,7 +72,7 @@ fn block_lit(plan: Plan, x: Situation, d: Direction) -> u64
     let t = d.terminus();
     let near = leaves(x.station(s));
     let far = arrives(x.station(t));
-    let lit = either(given(near, area(plan, s)), given(far, area(plan, t)));
+    let lit = either(given(near, plan.area(s)), given(far, plan.area(t)));
     minus(lit, x.held(d))
 }
 

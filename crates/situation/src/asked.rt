@@ -1,6 +1,7 @@
 // What is asked of a situation.
 ghost use mathlib.Core.Path.{_≡_};
 ghost use Rattle.rulebook.specs.Situation.{any-exit-route, track-free, line-free, one-out-one-in, turnedRound, seen-from, held, station as Block·station};
+ghost use Rattle.rulebook.specs.Place.{held-in-area};
 ghost use Rattle.situation.specs.Packed.{station, unpacked};
 use super::Situation;
 use super::Station;
@@ -11,6 +12,8 @@ use super::flags::exchanged;
 use super::flags::has_flag;
 use block::line::Direction;
 use block::line::Name;
+use block::line::Plan;
+use sections::either;
 
 impl Situation {
     pub fn linked(self) -> bool
@@ -94,6 +97,15 @@ impl Situation {
             Direction::TowardsA => self.signals.helda,
             Direction::TowardsB => self.signals.heldb,
         }
+    }
+
+    // BSLB holds a signal of either direction whose section is in the area of s.
+    pub fn held_in_area(self, plan: Plan, s: Name) -> bool
+        ensures { λ r. ⌜ r ≡ held-in-area plan s (unpacked self) ⌝ }
+    {
+        let towardsb = self.held(Direction::TowardsB);
+        let towardsa = self.held(Direction::TowardsA);
+        plan.some_in_area(s, either(towardsb, towardsa))
     }
 
     // The same situation as the other station sees it.

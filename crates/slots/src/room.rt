@@ -28,15 +28,13 @@ pub fn put_slot(slot: [u8; 6], count: usize, room: &mut [u8]) -> Part
     ensures put { λ r. ⌜ handed (now (room .exit)) (r .count) (r .more) ≡ put (handed (now (room .entry)) count false) (slot ∷ []) ⌝ }
     ensures fits { λ r. ⌜ 6 * r .count ≤ length (now (room .exit)) ⌝ }
 {
-    let at = SLOT * count;
-    if room.len() - at < SLOT {
+    let start = SLOT * count;
+    if room.len() - start < SLOT {
         return Part { count, more: true };
     }
-    write_slot(slot, &mut room[at..]);
-    Part {
-        count: count + 1,
-        more: false,
-    }
+    write_slot(slot, &mut room[start..]);
+    let count = count + 1;
+    Part { count, more: false }
 }
 
 // A slot of so many places, with one place more.
@@ -48,4 +46,31 @@ pub fn grow_slot(slot: [u8; 6], depth: usize, place: usize) -> [u8; 6]
     x[0] = (depth + 1) as u8;
     x[depth + 1] = place as u8;
     x
+}
+
+// That slot, at the front of the part that is lent.
+fn write_grown(slot: [u8; 6], depth: usize, place: usize, part: &mut [u8])
+    requires { ⌜ (6 ≤ length (now part)) × (depth < 5) × (place < 256) ⌝ }
+    ensures { λ _. ⌜ now (part .exit) ≡ grow slot depth place ++ drop 6 (now (part .entry)) ⌝ }
+{
+    write_slot(slot, part);
+    part[0] = (depth + 1) as u8;
+    part[depth + 1] = place as u8;
+}
+
+// The same as `put_slot` of that slot, which is made where it is to stand.
+pub fn put_grown(slot: [u8; 6], depth: usize, place: usize, count: usize, room: &mut [u8]) -> Part
+    requires { ⌜ (6 * count ≤ length (now room)) × (depth < 5) × (place < 256) ⌝ }
+    ensures put { λ r. ⌜ handed (now (room .exit)) (r .count) (r .more) ≡ put (handed (now (room .entry)) count false) (grow slot depth place ∷ []) ⌝ }
+    ensures fits { λ r. ⌜ 6 * r .count ≤ length (now (room .exit)) ⌝ }
+{
+    let at = SLOT * count;
+    if room.len() - at < SLOT {
+        return Part { count, more: true };
+    }
+    write_grown(slot, depth, place, &mut room[at..]);
+    Part {
+        count: count + 1,
+        more: false,
+    }
 }

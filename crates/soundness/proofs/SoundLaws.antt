@@ -12,7 +12,7 @@ use Rattle.words.specs.Words.{_and_, _or_}
 use Rattle.sections.specs.Sections.{_belongs-to_, sections-up-to}
 use Rattle.words.proofs.Tests.{and-true, and-false}
 use Rattle.rulebook.specs.Situation.{_is-out, _is-in, one-out-one-in, both-none}
-use Rattle.rulebook.specs.Sound.{stationSound, link-up-agrees, link-down-apart, pending-sound, stationsSound, setsSound, watchSound, sound}
+use Rattle.rulebook.specs.Sound.{stationSound, link-up-agrees, link-down-apart, pending-sound, stationsSound, setsSound, watchSound, sound-in-2024}
 use Rattle.block.specs.declared.line.Plan.{Plan}
 use Rattle.rulebook.specs.Situation.{Station}
 use Rattle.rulebook.specs.Situation.{Situation}
@@ -130,11 +130,11 @@ module _ (p : Plan) (x : Situation) where
   exits-decide h = sym (all-hold (within (x .traffic .track .occupied)) (within (x .signals .held .towardsb)) (within (x .signals .held .towardsa)) (not (1 belongs-to x .signals .held .towardsb)) (not (p .sections belongs-to x .signals .held .towardsa)) (sym each-named ∙ h))
 
   -- ---- the situation
-  pub watch-fails : watchSound x ≡ false → false ≡ sound p x
+  pub watch-fails : watchSound x ≡ false → false ≡ sound-in-2024 p x
   watch-fails h = sym (ap (λ (v : Bool). stationsSound x and setsSound p x and v) h ∙ and-false (stationsSound x and setsSound p x))
 
-  pub sets-fail : setsSound p x ≡ false → false ≡ sound p x
+  pub sets-fail : setsSound p x ≡ false → false ≡ sound-in-2024 p x
   sets-fail h = sym (ap (λ (v : Bool). stationsSound x and v and watchSound x) h ∙ ap (λ (v : Bool). v and watchSound x) (and-false (stationsSound x)))
 
-  pub stations-decide : watchSound x ≡ true → setsSound p x ≡ true → stationsSound x ≡ sound p x
+  pub stations-decide : watchSound x ≡ true → setsSound p x ≡ true → stationsSound x ≡ sound-in-2024 p x
   stations-decide w h = sym (ap₂ (λ (v u : Bool). stationsSound x and v and u) h w ∙ and-true (stationsSound x and true) ∙ and-true (stationsSound x))

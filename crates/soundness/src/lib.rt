@@ -1,10 +1,11 @@
 // A plan and a situation in it, judged: 0 where it is one, else the refusal. A test for each clause of the document.
 ghost use mathlib.Core.Path.{_≡_};
 ghost use Rattle.words.specs.Words.{_and_};
-ghost use Rattle.rulebook.specs.Sound.{stationSound, link-up-agrees, link-down-apart, may-ask, pending-sound, setsSound, watchSound, sound};
+ghost use Rattle.rulebook.specs.Sound.{stationSound, link-up-agrees, link-down-apart, may-ask, pending-sound, setsSound, watchSound, such-a-pair, sound-in-2024, exclusions-kept, sound};
 ghost use Rattle.rulebook.specs.Judged.{judged};
 ghost use Rattle.situation.specs.Packed.{station, unpacked};
 use block::line::Direction;
+use block::line::Name;
 use block::line::Plan;
 use block::refused::ACCEPTED;
 use block::refused::NO_PLAN;
@@ -100,8 +101,8 @@ fn watch_sound(x: Situation) -> bool
     true
 }
 
-fn sound(plan: Plan, x: Situation) -> bool
-    ensures { λ r. ⌜ r ≡ sound plan (unpacked x) ⌝ }
+fn sound_in_2024(plan: Plan, x: Situation) -> bool
+    ensures { λ r. ⌜ r ≡ sound-in-2024 plan (unpacked x) ⌝ }
 {
     if !watch_sound(x) {
         return false;
@@ -119,6 +120,37 @@ fn sound(plan: Plan, x: Situation) -> bool
         return false;
     }
     station_sound(x.other())
+}
+
+// AFBLI or AFBLE with BILC, BSLG, or BSLB in the station's own area, of the station t, which is s.
+fn such_a_pair(plan: Plan, s: Name, t: Station, x: Situation) -> bool
+    ensures { λ r. ⌜ r ≡ such-a-pair plan s (station t) (unpacked x) ⌝ }
+{
+    if t.annulled() {
+        return t.has_bilc() | t.has_bslg() | x.held_in_area(plan, s);
+    }
+    false
+}
+
+// "In that edition a situation with such a pair is not sound."
+fn exclusions_kept(plan: Plan, x: Situation) -> bool
+    ensures { λ r. ⌜ r ≡ exclusions-kept plan (unpacked x) ⌝ }
+{
+    if plan.rules2012 {
+        let a = such_a_pair(plan, Name::StationA, x.own(), x);
+        let b = such_a_pair(plan, Name::StationB, x.other(), x);
+        return !(a | b);
+    }
+    true
+}
+
+fn sound(plan: Plan, x: Situation) -> bool
+    ensures { λ r. ⌜ r ≡ sound plan (unpacked x) ⌝ }
+{
+    if sound_in_2024(plan, x) {
+        return exclusions_kept(plan, x);
+    }
+    false
 }
 
 pub fn judged(plan: Plan, x: Situation) -> u8

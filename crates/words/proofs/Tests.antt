@@ -1,7 +1,7 @@
 -- Tests that hold, taken apart and put together. Assumes nothing.
 use Prim.Native.Nat.{ℕ, _<_}
 use mathlib.Core.Path.{_≡_, refl, sym, subst}
-use mathlib.Core.Bool.{Bool, true, false, not}
+use mathlib.Core.Bool.{Bool, true, false, not, true≢false}
 use mathlib.Core.Logic.{_⊎_, inl, inr}
 use borrow.Author.Tests.{eq-eqb, leb-false}
 use lib.Dec.{T, T-not, eqb, leb}
@@ -34,6 +34,10 @@ or-at false b t = inr t
 pub neither : (a b : Bool) → T (not (a or b)) → T (not a) × T (not b)
 neither true b t = absurd t
 neither false b t = (tt, t)
+
+pub both-off : (a b : Bool) → (a or b) ≡ false → (a ≡ false) × (b ≡ false)
+both-off true b e = absurd (true≢false e)
+both-off false b e = (refl, e)
 
 pub twice-not : (v : Bool) → T (not (not v)) → T v
 twice-not true t = tt

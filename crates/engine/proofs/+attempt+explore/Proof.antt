@@ -35,11 +35,14 @@ use Rattle.engine.proofs.ends_answer.Reads as ends-answer-reads
 use Rattle.engine.proofs.own_answer.Reads as own-answer-reads
 use Rattle.engine.proofs.start_of.Reads as start-of-reads
 use Rattle.events.proofs.next.Reads as next-reads
-use Rattle.events.proofs.own_refusal.Reads as own-refusal-reads
+use Rattle.rulebook.specs.Apply.{own-refusal}
+use Rattle.events.proofs.Added.{refused-first, then-2012, then-2024, own-is}
+use Rattle.events.proofs.refusal_in_2024.Reads as refusal-in-2024-reads
+use Rattle.events.proofs.added_in_2012.Reads as added-in-2012-reads
 use Rattle.records.proofs.lists.event_at.Reads as event-at-reads
 use Rattle.rules.proofs.EachEvent.{tried-refusal, tried-next}
 use Rattle.slots.proofs.room.grow_slot.Reads as grow-slot-reads
-use Rattle.slots.proofs.room.put_slot.Reads as put-slot-reads
+use Rattle.slots.proofs.room.put_grown.Reads as put-grown-reads
 use Rattle.engine.proofs.+attempt+explore.{statement}
 use Rattle.engine.proofs.+attempt+explore.Tie.{close}
 
@@ -62,7 +65,7 @@ abbrev explore-below : ℕ → In 3 explore-kinds.ps
 explore-below t = and 3 explore-kinds.ps (falls 3 explore-kinds.ps _<_ μ-explore t) explore.Pre
 
 abbrev attempt-calls : ℕ → attempt-lts.Claims
-attempt-calls t = (start-of-reads.Asked, start-of-reads.Learnt, event-at-reads.Asked, event-at-reads.Learnt, own-refusal-reads.Asked, own-refusal-reads.Learnt, ends-answer-reads.Asked, ends-answer-reads.Learnt, grow-slot-reads.Asked, grow-slot-reads.Learnt, put-slot-reads.Asked, put-slot-reads.Learnt, next-reads.Asked, next-reads.Learnt, explore-below t, explore.Post)
+attempt-calls t = (start-of-reads.Asked, start-of-reads.Learnt, event-at-reads.Asked, event-at-reads.Learnt, refusal-in-2024-reads.Asked, refusal-in-2024-reads.Learnt, added-in-2012-reads.Asked, added-in-2012-reads.Learnt, ends-answer-reads.Asked, ends-answer-reads.Learnt, put-grown-reads.Asked, put-grown-reads.Learnt, grow-slot-reads.Asked, grow-slot-reads.Learnt, next-reads.Asked, next-reads.Learnt, explore-below t, explore.Post)
 
 abbrev explore-calls : ℕ → explore-lts.Claims
 explore-calls t = (own-answer-reads.Asked, own-answer-reads.Learnt, attempt-below t, attempt.Post)
@@ -92,17 +95,29 @@ attempt-loop-holds t c = (omega arith, omega arith, refl, refl)
 attempt-event-at-requires : (t : ℕ) → attempt-lts.Need-event-at-requires (attempt-calls t) (attempt-at t) attempt.Post attempt-Inv-loop attempt-μ-loop
 attempt-event-at-requires t c κs = omega arith
 
-attempt-own-refusal-requires : (t : ℕ) → attempt-lts.Need-own-refusal-requires (attempt-calls t) (attempt-at t) attempt.Post attempt-Inv-loop attempt-μ-loop
-attempt-own-refusal-requires t c κs = tt
+attempt-refusal-in-2024-requires : (t : ℕ) → attempt-lts.Need-refusal-in-2024-requires (attempt-calls t) (attempt-at t) attempt.Post attempt-Inv-loop attempt-μ-loop
+attempt-refusal-in-2024-requires t c κs = tt
+
+-- what refuses the event, in the edition that the plan names
+attempt-told : (t : ℕ) (j : attempt-lts.Joined1 (attempt-calls t) (attempt-at t) attempt.Post attempt-Inv-loop attempt-μ-loop)
+    → let a = j .before .before .before .before .before .before .before .before .before .before .before .args in
+    j .if1 .refusal ≡ own-refusal (a .ask .plan) (unpacked (a .x)) (j .before .before .event-at .result)
+attempt-told t j =
+    let a = j .before .before .before .before .before .before .before .before .before .before .before .args in
+    let p = a .ask .plan in
+    let x = unpacked (a .x) in
+    let e = j .before .before .event-at .result in
+    own-is p x e (j .before .refusal-in-2024 .ensures)
+    (⊎-elim
+    (λ v. v .3 ∙ then-2012 p x e (v .0 .taken) (v .1 .taken) (v .2 .ensures))
+    (⊎-elim (λ v. v .2 ∙ v .0 .taken ∙ then-2024 p x e (v .0 .taken) (v .1 .left)) (λ v. v .1 ∙ refused-first p x e (v .0 .left)))
+    (j .if1 .came))
 
 attempt-ends-answer-requires : (t : ℕ) → attempt-lts.Need-ends-answer-requires (attempt-calls t) (attempt-at t) attempt.Post attempt-Inv-loop attempt-μ-loop
-attempt-ends-answer-requires t c κs = c .before .before .before .before .before .before .before .before .before .before .before .before .pre .1 .1 .1 .1
+attempt-ends-answer-requires t c κs = c .before .before .before .before .before .before .before .before .before .before .before .before .before .pre .1 .1 .1 .1
 
-attempt-grow-slot-requires : (t : ℕ) → attempt-lts.Need-grow-slot-requires (attempt-calls t) (attempt-at t) attempt.Post attempt-Inv-loop attempt-μ-loop
-attempt-grow-slot-requires t c κs = omega (arith, c .before .before .before .before .before .before .before .before .before .before .before .before .before .before .pre)
-
-attempt-put-slot-requires : (t : ℕ) → attempt-lts.Need-put-slot-requires (attempt-calls t) (attempt-at t) attempt.Post attempt-Inv-loop attempt-μ-loop
-attempt-put-slot-requires t c κs = c .before .before .before .before .before .before .before .before .before .loop .inv .1
+attempt-put-grown-requires : (t : ℕ) → attempt-lts.Need-put-grown-requires (attempt-calls t) (attempt-at t) attempt.Post attempt-Inv-loop attempt-μ-loop
+attempt-put-grown-requires t c κs = (c .before .before .before .before .before .before .before .before .before .loop .inv .1, omega (arith, c .before .before .before .before .before .before .before .before .before .before .before .before .before .before .before .before .pre), omega (arith, c .before .before .before .before .before .before .before .before .before .before .before .before .before .before .before .before .pre))
 
 attempt-same-length : (t : ℕ) → attempt-lts.Need-same-length (attempt-calls t) (attempt-at t) attempt.Post attempt-Inv-loop attempt-μ-loop
 attempt-same-length t c = omega (arith, c .before .before .before .before .before .before .before .before .before .before .before .before .before .loop .inv .2)
@@ -116,86 +131,80 @@ attempt-returns t c =
     let l = c .before .before .before .before .before .before .before .before .before .before .before .before .before .loop in
     let is = c .before .before .before .before .before .before .before .before .before .before .before .event-at .ensures in
     let within : l .place ≤ length es = omega (arith, events-counted (now (a .events)), c .before .before .before .before .before .before .before .before .before .before .before .before .loop-test .taken) in
-    let told = tried-refusal (a .ask .plan) (unpacked (a .x)) es (l .place) is (l .inv .0) within (s .pre .1 .1 .1 .0) (c .before .before .before .before .before .before .before .before .before .before .own-refusal .ensures) in
-    let accepted = sym told ∙ c .before .before .before .before .before .before .before .before .before .if1 .taken in
+    let told = tried-refusal (a .ask .plan) (unpacked (a .x)) es (l .place) is (l .inv .0) within (s .pre .1 .1 .1 .0) (attempt-told t (c .before .before .before .before .before .before .before .before .before)) in
+    let accepted = sym told ∙ c .before .before .before .before .before .before .before .before .if3 .taken in
     let leads = tried-next (a .ask .plan) (unpacked (a .x)) es (l .place) is accepted in
     let y = tried (a .ask .plan) es (unpacked (a .x)) (l .place) .next in (
       rw (← c .before .before .before .before .before .before .before .before .before .before .before .before .before .before .start-of .ensures .0, ← c .before .before .before .before .before .before .before .before .before .before .before .before .before .before .start-of .ensures .1 .0)
-          (try-full _ _ _ _ _ _ _ _ y (c .before .before .before .before .before .grow-slot .result) _ _ _ within (eq-eqb _ 0 accepted) refl (c .before .before .before .before .before .grow-slot .ensures)
-          (last-one (rulesOf (a .ask .plan) es rs) (l .on) (a .ask .from) (a .at .depth + 1) y _ _ _ _ (omega (arith, c .before .before .before .before .before .before .before .before .if2 .taken)) _ _ _ (sym (c .before .before .before .before .before .before .before .ends-answer .ensures ∙ ap (ends (l .on) (a .ask .plan) rs) (leads refl)) ∙ c .before .before .before .before .before .before .if3 .taken) (c .before .before .before .put-slot .ensures .0))
-          (c .if4 .taken) ∙ l .inv .3),
-      c .before .before .before .put-slot .ensures .1,
+          (try-full _ _ _ _ _ _ _ _ y (grow (a .at .slot) (a .at .depth) (l .place)) _ _ _ within (eq-eqb _ 0 accepted) refl refl
+          (last-one (rulesOf (a .ask .plan) es rs) (l .on) (a .ask .from) (a .at .depth + 1) y _ _ _ _ (omega (arith, c .before .before .before .before .before .before .before .if4 .taken)) _ _ _ (sym (c .before .before .before .before .before .before .ends-answer .ensures ∙ ap (ends (l .on) (a .ask .plan) rs) (leads refl)) ∙ c .before .before .before .before .before .if5 .taken) (c .before .before .before .put-grown .ensures .0))
+          (c .if6 .taken) ∙ l .inv .3),
+      c .before .before .before .put-grown .ensures .1,
     )
 
-attempt-grow-slot-requires-2 : (t : ℕ) → attempt-lts.Need-grow-slot-requires-2 (attempt-calls t) (attempt-at t) attempt.Post attempt-Inv-loop attempt-μ-loop
-attempt-grow-slot-requires-2 t c κs = omega (arith, c .before .before .before .before .before .before .before .before .before .before .before .before .pre)
-
-attempt-add-t31 : (t : ℕ) → attempt-lts.Need-add-t31 (attempt-calls t) (attempt-at t) attempt.Post attempt-Inv-loop attempt-μ-loop
-attempt-add-t31 t c = omega (arith, c .before .before .before .before .before .before .before .before .before .before .before .before .before .pre)
-
-attempt-sub-t32 : (t : ℕ) → attempt-lts.Need-sub-t32 (attempt-calls t) (attempt-at t) attempt.Post attempt-Inv-loop attempt-μ-loop
-attempt-sub-t32 t c = omega (arith, c .before .before .before .before .before .before .before .before .before .before .before .before .before .pre)
+attempt-grow-slot-requires : (t : ℕ) → attempt-lts.Need-grow-slot-requires (attempt-calls t) (attempt-at t) attempt.Post attempt-Inv-loop attempt-μ-loop
+attempt-grow-slot-requires t c κs = omega (arith, c .before .before .before .before .before .before .before .before .before .before .before .before .before .pre)
 
 attempt-next-requires : (t : ℕ) → attempt-lts.Need-next-requires (attempt-calls t) (attempt-at t) attempt.Post attempt-Inv-loop attempt-μ-loop
 attempt-next-requires t c κs = tt
 
 attempt-explore-requires : (t : ℕ) → attempt-lts.Need-explore-requires (attempt-calls t) (attempt-at t) attempt.Post attempt-Inv-loop attempt-μ-loop
 attempt-explore-requires t c κs =
-    let l = c .before .before .before .before .before .before .before .before in
-    let a = c .before .before .before .before .before .before .before .before .before .before .before .before .before .before .before in
+    let l = c .before .before .before .before .before .before .before .before .before in
+    let a = c .before .before .before .before .before .before .before .before .before .before .before .before .before .before .before .before in
     (omega (arith, a .pre .0), (omega (arith, l .loop .inv .1), (omega (arith, a .pre .1 .1 .0), a .pre .1 .1 .1)))
 
 attempt-same-length-2 : (t : ℕ) → attempt-lts.Need-same-length-2 (attempt-calls t) (attempt-at t) attempt.Post attempt-Inv-loop attempt-μ-loop
-attempt-same-length-2 t c = omega (arith, c .before .before .before .before .before .before .before .before .before .before .before .before .loop .inv .2)
+attempt-same-length-2 t c = omega (arith, c .before .before .before .before .before .before .before .before .before .before .before .before .before .loop .inv .2)
 
 attempt-returns-2 : (t : ℕ) → attempt-lts.Need-returns-2 (attempt-calls t) (attempt-at t) attempt.Post attempt-Inv-loop attempt-μ-loop
 attempt-returns-2 t c =
-    let s = c .before .before .before .before .before .before .before .before .before .before .before .before .before .before .before .before .before .before .before in
+    let s = c .before .before .before .before .before .before .before .before .before .before .before .before .before .before .before .before .before .before .before .before in
     let a = s .args in
     let es = events-in (now (a .events)) in
     let rs = readings-in (now (a .readings)) in
-    let l = c .before .before .before .before .before .before .before .before .before .before .before .before .loop in
-    let is = c .before .before .before .before .before .before .before .before .before .before .event-at .ensures in
-    let within : l .place ≤ length es = omega (arith, events-counted (now (a .events)), c .before .before .before .before .before .before .before .before .before .before .before .loop-test .taken) in
-    let told = tried-refusal (a .ask .plan) (unpacked (a .x)) es (l .place) is (l .inv .0) within (s .pre .1 .1 .1 .0) (c .before .before .before .before .before .before .before .before .before .own-refusal .ensures) in
-    let accepted = sym told ∙ c .before .before .before .before .before .before .before .before .if1 .taken in
+    let l = c .before .before .before .before .before .before .before .before .before .before .before .before .before .loop in
+    let is = c .before .before .before .before .before .before .before .before .before .before .before .event-at .ensures in
+    let within : l .place ≤ length es = omega (arith, events-counted (now (a .events)), c .before .before .before .before .before .before .before .before .before .before .before .before .loop-test .taken) in
+    let told = tried-refusal (a .ask .plan) (unpacked (a .x)) es (l .place) is (l .inv .0) within (s .pre .1 .1 .1 .0) (attempt-told t (c .before .before .before .before .before .before .before .before .before)) in
+    let accepted = sym told ∙ c .before .before .before .before .before .before .before .before .if3 .taken in
     let leads = tried-next (a .ask .plan) (unpacked (a .x)) es (l .place) is accepted in
     let y = tried (a .ask .plan) es (unpacked (a .x)) (l .place) .next in
-    let node : Node = record { slot = c .before .before .before .before .before .before .grow-slot2 .result; depth = a .at .depth + 1; left = a .at .left - 1; on = l .on; count = l .count } in (
-      rw (← c .before .before .before .before .before .before .before .before .before .before .before .before .before .start-of .ensures .0, ← c .before .before .before .before .before .before .before .before .before .before .before .before .before .start-of .ensures .1 .0)
-          (try-full _ _ _ _ _ _ _ _ y (c .before .before .before .before .before .before .grow-slot2 .result) _ _ _ within (eq-eqb _ 0 accepted) refl (c .before .before .before .before .before .before .grow-slot2 .ensures)
+    let node : Node = record { slot = c .before .before .before .before .before .before .grow-slot .result; depth = a .at .depth + 1; left = a .at .left - 1; on = l .on; count = l .count } in (
+      rw (← c .before .before .before .before .before .before .before .before .before .before .before .before .before .before .start-of .ensures .0, ← c .before .before .before .before .before .before .before .before .before .before .before .before .before .before .start-of .ensures .1 .0)
+          (try-full _ _ _ _ _ _ _ _ y (c .before .before .before .before .before .before .grow-slot .result) _ _ _ within (eq-eqb _ 0 accepted) refl (c .before .before .before .before .before .before .grow-slot .ensures)
           (c .before .before .before .explore .ensures .0 ∙ ap (λ (s : Situation). explored (a .ask) es rs s node (l .room)) (leads (c .before .before .before .before .before .next .ensures)))
-          (c .if5 .taken) ∙ l .inv .3),
+          (c .if7 .taken) ∙ l .inv .3),
       c .before .before .before .explore .ensures .1,
     )
 
 attempt-add-place : (t : ℕ) → attempt-lts.Need-add-place (attempt-calls t) (attempt-at t) attempt.Post attempt-Inv-loop attempt-μ-loop
-attempt-add-place t c = omega (arith, c .before .before .before .before .before .before .before .before .before .before .before .pre)
+attempt-add-place t c = omega (arith, c .before .before .before .before .before .before .before .before .before .before .before .before .pre)
 
 attempt-loop-less : (t : ℕ) → attempt-lts.Need-loop-less (attempt-calls t) (attempt-at t) attempt.Post attempt-Inv-loop attempt-μ-loop
 attempt-loop-less t c = omega arith
 
 attempt-loop-again : (t : ℕ) → attempt-lts.Need-loop-again (attempt-calls t) (attempt-at t) attempt.Post attempt-Inv-loop attempt-μ-loop
 attempt-loop-again t c =
-    let s = c .before .before .before .before .before .before .before .before .before .before .before in
+    let s = c .before .before .before .before .before .before .before .before .before .before .before .before in
     let a = s .args in
     let es = events-in (now (a .events)) in
     let rs = readings-in (now (a .readings)) in
-    let l = c .before .before .before .before .loop in
-    let is = c .before .before .event-at .ensures in
+    let l = c .before .before .before .before .before .loop in
+    let is = c .before .before .before .event-at .ensures in
     let within : l .place ≤ length es = omega (arith, events-counted (now (a .events))) in
-    let told = tried-refusal (a .ask .plan) (unpacked (a .x)) es (l .place) is (l .inv .0) within (s .pre .1 .1 .1 .0) (c .before .own-refusal .ensures) in
+    let told = tried-refusal (a .ask .plan) (unpacked (a .x)) es (l .place) is (l .inv .0) within (s .pre .1 .1 .1 .0) (attempt-told t (c .before)) in
     let r = c .before in
     let y = tried (a .ask .plan) es (unpacked (a .x)) (l .place) .next in
     ⊎-elim
     (λ v. (
       omega arith,
-      rw (v .10, v .11) (v .6 .ensures .1),
-      rw (v .10) (omega (arith, l .inv .2)),
-      rw (v .10, v .11)
-          (try-on _ _ _ _ _ _ _ _ y (v .4 .result) _ _ _ within (eq-eqb _ 0 (sym told ∙ v .0 .taken)) refl (v .4 .ensures)
-          (last-one (rulesOf (a .ask .plan) es rs) (l .on) (a .ask .from) (a .at .depth + 1) y _ _ _ _ (omega (arith, v .1 .taken)) _ _ _ (sym (v .2 .ensures ∙ ap (ends (l .on) (a .ask .plan) rs) (tried-next (a .ask .plan) (unpacked (a .x)) es (l .place) is (sym told ∙ v .0 .taken) refl)) ∙ v .3 .taken) (v .6 .ensures .0))
-          _ (v .9 .left) refl ∙ l .inv .3),
+      rw (v .9, v .10) (v .5 .ensures .1),
+      rw (v .9) (omega (arith, l .inv .2)),
+      rw (v .9, v .10)
+          (try-on _ _ _ _ _ _ _ _ y (grow (a .at .slot) (a .at .depth) (l .place)) _ _ _ within (eq-eqb _ 0 (sym told ∙ v .0 .taken)) refl refl
+          (last-one (rulesOf (a .ask .plan) es rs) (l .on) (a .ask .from) (a .at .depth + 1) y _ _ _ _ (omega (arith, v .1 .taken)) _ _ _ (sym (v .2 .ensures ∙ ap (ends (l .on) (a .ask .plan) rs) (tried-next (a .ask .plan) (unpacked (a .x)) es (l .place) is (sym told ∙ v .0 .taken) refl)) ∙ v .3 .taken) (v .5 .ensures .0))
+          _ (v .8 .left) refl ∙ l .inv .3),
     ))
     (⊎-elim
     (λ v. (
@@ -219,7 +228,7 @@ attempt-loop-again t c =
           _ (v .8 .left) refl ∙ l .inv .3),
     ))
     (λ v. (omega arith, rw (v .1, v .2) (l .inv .1), rw (v .1) (l .inv .2), rw (v .1, v .2) (try-refused _ _ _ _ _ _ _ _ _ within (ne-eqb _ 0 (λ z. v .0 .left (told ∙ z))) refl ∙ l .inv .3)))))
-    (c .if1 .came)
+    (c .if3 .came)
 
 attempt-same-length-3 : (t : ℕ) → attempt-lts.Need-same-length-3 (attempt-calls t) (attempt-at t) attempt.Post attempt-Inv-loop attempt-μ-loop
 attempt-same-length-3 t c = omega arith
@@ -274,15 +283,15 @@ pub +attempt+explore-spec : {M : Type 1} → statement M
     (attempt-start-of-requires t)
     (attempt-loop-holds t)
     (attempt-event-at-requires t)
-    (attempt-own-refusal-requires t)
+    (attempt-refusal-in-2024-requires t)
+    (λ c κs. tt)
     (attempt-ends-answer-requires t)
-    (attempt-grow-slot-requires t)
-    (attempt-put-slot-requires t)
+    (attempt-put-grown-requires t)
     (attempt-same-length t)
     (attempt-returns t)
-    (attempt-grow-slot-requires-2 t)
-    (attempt-add-t31 t)
-    (attempt-sub-t32 t)
+    (attempt-grow-slot-requires t)
+    (λ c. omega (arith, c .before .before .before .before .before .before .before .before .before .before .before .before .before .before .pre))
+    (λ c. omega (arith, c .before .before .before .before .before .before .before .before .before .before .before .before .before .before .pre))
     (attempt-next-requires t)
     (attempt-explore-requires t)
     (attempt-same-length-2 t)

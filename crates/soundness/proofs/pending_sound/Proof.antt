@@ -2,7 +2,7 @@
 use mathlib.Core.Path.{sym, ap₂, _∙_}
 use Rattle.words.specs.Words.{_or_}
 use Rattle.situation.specs.Packed.{unpacked}
-use Rattle.soundness.proofs.Neither.{neither}
+use Rattle.words.proofs.Tests.{both-off}
 use borrow.Author.Needs.{needs}
 use Rattle.soundness.proofs.pending_sound.Statement.{statement}
 use Rattle.soundness.proofs.pending_sound.Tie as tie
@@ -10,7 +10,7 @@ use Rattle.soundness.proofs.pending_sound.Tie as tie
 returns-2 : tie.Need-returns-2
 returns-2 c =
     let x = unpacked (c .before .before .before .args .x) in
-    let m = neither (x .traffic .pending .own) (x .traffic .pending .other) (ap₂ _or_ (sym (c .before .before .asks .ensures)) (sym (c .before .other-asks .ensures)) ∙ c .if1 .left) in
+    let m = both-off (x .traffic .pending .own) (x .traffic .pending .other) (ap₂ _or_ (sym (c .before .before .asks .ensures)) (sym (c .before .other-asks .ensures)) ∙ c .if1 .left) in
     rw (m .0, m .1)
 
 pub pending-sound-spec : {M : Type 1} → statement M

@@ -5,7 +5,7 @@ use lib.Dec.{eqb}
 use Rattle.words.specs.Words.{_or_}
 use Rattle.rulebook.specs.Situation.{count-runs}
 use Rattle.situation.specs.Packed.{unpacked}
-use Rattle.soundness.proofs.Neither.{neither}
+use Rattle.words.proofs.Tests.{both-off}
 use borrow.Author.Needs.{needs}
 use Rattle.soundness.proofs.watch_sound.Statement.{statement}
 use Rattle.soundness.proofs.watch_sound.Tie as tie
@@ -17,7 +17,7 @@ returns c =
 returns-2 : tie.Need-returns-2
 returns-2 c =
     let w = unpacked (c .before .before .before .args .x) .traffic .track .watch in
-    let m = neither (w .mark) (count-runs w) (ap₂ _or_ (sym (c .before .before .marked .ensures)) (sym (c .before .count-runs .ensures)) ∙ c .if1 .left) in
+    let m = both-off (w .mark) (count-runs w) (ap₂ _or_ (sym (c .before .before .marked .ensures)) (sym (c .before .count-runs .ensures)) ∙ c .if1 .left) in
     let none : w .count ≡ 0 = eqb-true (w .count) 0 (not-false (eqb (w .count) 0) (m .1)) in
     rw (m .0, none)
 

@@ -9,12 +9,13 @@ use Rattle.records.specs.Lists.{answer-length}
 use Rattle.records.specs.Situation.{codes-of, situation}
 use Rattle.records.specs.InBytes.{situation-size, situation-bytes}
 use Rattle.records.specs.Plan.{plan}
+use Rattle.records.proofs.PlanForms.{plan-size-is}
 use Rattle.records.proofs.SituationForms.{size-is, bytes-are}
 use Rattle.paper.specs.Question.{written}
 use Rattle.questions.specs.InCode.{asked}
 use Rattle.forms.specs.Form.{laid}
 use Rattle.questions.proofs.CountedItems.{events-laid, readings-laid}
-use Rattle.questions.proofs.Laid.{onto, plan-long, length-long, records-laid}
+use Rattle.questions.proofs.Laid.{onto, length-long, records-laid}
 use Rattle.questions.proofs.write.put_question.Statement.{statement}
 use Rattle.questions.proofs.write.put_question.Tie as tie
 
@@ -48,7 +49,7 @@ returns c =
     let n₂ : length f₂ ≡ situation-size codes = ap length is₂ ∙ size-is codes fits in
     let n₃ : length f₃ ≡ 3 + 2 * events .count = omega (arith, length-take-le (2 * events .count) (events .bytes) (fit .0)) in
     let n₄ : length f₄ ≡ 3 + 3 * readings .count = omega (arith, length-take-le (3 * readings .count) (readings .bytes) (fit .1)) in
-    let r₂ = onto f₁ f₂ room (lb .0 ∙ sym (plan-long q), lb .1) (si .0 ∙ sym n₂, si .1) in
+    let r₂ = onto f₁ f₂ room (lb .0 ∙ sym (plan-size-is (q .plan)), lb .1) (si .0 ∙ sym n₂, si .1) in
     let r₃ = onto (f₁ ++ f₂) f₃ room r₂ (ev .0 ∙ sym n₃, ev .1) in
     let r₄ = onto ((f₁ ++ f₂) ++ f₃) f₄ room r₃ (rd .0 ∙ sym n₄, rd .1) in
     let r₅ = onto (((f₁ ++ f₂) ++ f₃) ++ f₄) f₅ room r₄ (ln .0 ∙ sym (length-long q), ln .1) in

@@ -12,8 +12,7 @@ returns : tie.Need-returns
 returns c =
     let g = c .before in
     let s = g .before .before .args .s .now in
-    let r = SI-found s (bytes-of s (g .before .shared-slice-known .given)) (sym (c .before .stands .ensures) ∙ c .if1 .taken) in
-    (r .used, r .fits)
+    SI-found s (bytes-of s (g .before .shared-slice-known .given)) (sym (g .stands .ensures) ∙ c .if1 .taken)
 
 shared-slice-read-if3 : tie.Need-shared-slice-read-if3
 shared-slice-read-if3 c = omega (arith, stands-long _ 21 _ (sym (c .before .before .stands2 .ensures) ∙ c .before .if2 .taken))
@@ -27,9 +26,8 @@ returns-2 c =
     let j = k .before .before in
     let g = j .before in
     let s = g .before .before .args .s .now in
-    let r = SJ-found s (bytes-of s (g .before .shared-slice-known .given)) (sym (g .stands .ensures) ∙ j .if1 .left)
-    (sym (k .before .stands2 .ensures) ∙ k .if2 .taken) (not-both (eqb (getD s 21 0) 0) (eqb (getD s 22 0) 0) (c .if3 .taken)) in
-    (r .used, r .fits)
+    SJ-found s (bytes-of s (g .before .shared-slice-known .given)) (sym (g .stands .ensures) ∙ j .if1 .left)
+    (sym (k .before .stands2 .ensures) ∙ k .if2 .taken) (not-both (eqb (getD s 21 0) 0) (eqb (getD s 22 0) 0) (c .if3 .taken))
 
 returns-3 : tie.Need-returns-3
 returns-3 c =
@@ -37,18 +35,16 @@ returns-3 c =
     let j = k .before .before in
     let g = j .before in
     let s = g .before .before .args .s .now in
-    let r = SJ-both-zero s (bytes-of s (g .before .shared-slice-known .given)) (sym (g .stands .ensures) ∙ j .if1 .left)
-    (sym (k .before .stands2 .ensures) ∙ k .if2 .taken) (both-are (eqb (getD s 21 0) 0) (eqb (getD s 22 0) 0) (c .if3 .left)) in
-    (r .used, r .fits)
+    SJ-both-zero s (bytes-of s (g .before .shared-slice-known .given)) (sym (g .stands .ensures) ∙ j .if1 .left)
+    (sym (k .before .stands2 .ensures) ∙ k .if2 .taken) (both-are (eqb (getD s 21 0) 0) (eqb (getD s 22 0) 0) (c .if3 .left))
 
 returns-4 : tie.Need-returns-4
 returns-4 c =
     let j = c .before .before in
     let g = j .before in
     let s = g .before .before .args .s .now in
-    let r = none-found s (bytes-of s (g .before .shared-slice-known .given)) (sym (g .stands .ensures) ∙ j .if1 .left)
-    (sym (c .before .stands2 .ensures) ∙ c .if2 .left) in
-    (r .used, r .fits)
+    none-found s (bytes-of s (g .before .shared-slice-known .given)) (sym (g .stands .ensures) ∙ j .if1 .left)
+    (sym (c .before .stands2 .ensures) ∙ c .if2 .left)
 
 pub take-situation-spec : {M : Type 1} → statement M
 take-situation-spec =
