@@ -4,15 +4,17 @@
  * target/staticlib; it is x86-64 code for Linux). Plans, situations, events,
  * questions, slots and sheet lines cross it as the bytes of document 01,
  * "Scope and exact rules: integrated line block papers", with requests 01 to
- * 03 of document 02; docs/RECORDS.md has every byte of them.
+ * 05 of document 02; docs/RECORDS.md has every byte of them.
  *
- *   plan       the record LB, 4 bytes, as it stands in a question
+ *   plan       the record LB, 4 bytes, for the rules of 2024, or LC, 5 bytes,
+ *              for those of 2012, as it stands in a question; it says the
+ *              edition that a call judges by
  *   situation  the record SI, 21 bytes, or SJ, 23 bytes, where a mark is set
  *              or a count runs, as it stands in a question
  *   event      two bytes, code and argument
  *   reading    two bytes, kind and argument
- *   question   the records LB, SI or SJ, EV, RD, LN end to end: the plan, the
- *              situation and the rest laid one after the other
+ *   question   the records LB or LC, SI or SJ, EV, RD, LN end to end: the plan,
+ *              the situation and the rest laid one after the other
  *   slot       six bytes, a sequence of events: its length, then their places
  *              in EV from 1, then zeros
  *
@@ -38,18 +40,20 @@
  * Refusals (0 is accepted; own is the station that the event's argument names):
  *
  *    1  the plan: n or b out of range
- *    2  the situation is not sound
+ *    2  the situation is not sound; in 2012 also if an annulled station has
+ *       BILC or BSLG, or a held signal in its area
  *    3  unknown event code
  *    4  the event's argument is out of range
  *    5  it is already so, or there is nothing to undo
  *    6  the link is down
  *    7  a SOBB is pending, or not the one needed
- *    8  the own station is annulled
+ *    8  the own station is annulled (in 2012 also for BILC and BSLB; BSLB's own
+ *       is the station in whose area the signal's section is)
  *    9  an exit route is set; it names the station that holds it, 0 A or 1 B:
  *       own for AFBLI, AFBLE and BILC, for SOBB and COBB A where A has one,
  *       else B
  *   10  the own entry route is set
- *   11  BILC is set
+ *   11  BILC is set (in 2012 also for AFBLI and AFBLE)
  *   12  the own orientation does not allow it
  *   13  the own station is in, and a section is occupied or a count runs (the
  *       ten seconds after a stray occupation); it names the lowest occupied
@@ -57,9 +61,12 @@
  *   14  the blocking reminder is on
  *   15  the own station is in, no section is occupied, no count runs and the
  *       other station has an exit route
+ *   16  in 2012, for AFBLI and AFBLE: BSLG is set
+ *   17  in 2012, for AFBLI and AFBLE: BSLB holds a signal, of either direction,
+ *       in the own area
  *   20  a record with wrong letters, bytes missing or left over, an EV or RD
- *       count out of range, SJ with mark and count zero; an event or a
- *       reading of another length than two
+ *       count out of range, SJ with mark and count zero, LC with another last
+ *       byte than 1; an event or a reading of another length than two
  *   21  LN above 5, an event listed twice, a reading out of range
  *   22  continuation or candidate's slot malformed, or not of six bytes
  *   23  numeric question or unit byte out of range
@@ -69,9 +76,10 @@
  * so test the refusal and not the name.
  *
  * Where several apply, the first in the order 20, 1, 2, 3 and 4 (event by
- * event), 21, 22, 24, then the event's own, which are numbered 5 to 15 and come
- * in the order of the event's row in document 01, 15 directly after 13; for
- * numbers 23, then 24.
+ * event), 21, 22, 24, then the event's own, which are numbered 5 to 17 and come
+ * in the order of the event's row in document 01, 15 directly after 13, and
+ * after them those of 2012: 11, 16, 17 of AFBLI and AFBLE, 8 of BILC and BSLB;
+ * for numbers 23, then 24.
  */
 #ifndef FOLVKIN_H
 #define FOLVKIN_H
@@ -99,7 +107,7 @@ uint8_t folvkin_situation(const uint8_t *plan, size_t plan_length, const uint8_t
  * Returns refusal + 2^8 name + 2^16 length. The name is the section (13) or the
  * station (9) that the refusal names, else 0; the length is how many bytes were
  * written, 0 where it refuses. Refusals 20, 1, 2, 3, 4, 24, then the event's
- * own, numbered 5 to 15. */
+ * own, numbered 5 to 17. */
 uint64_t folvkin_event(const uint8_t *plan, size_t plan_length, const uint8_t *situation,
                        size_t situation_length, const uint8_t *event, size_t event_length, uint8_t *room,
                        size_t room_length);
@@ -141,7 +149,7 @@ uint64_t folvkin_key(const uint8_t *question, size_t question_length, const uint
  * that names, or says whether all readings hold.
  * Returns refusal + 2^8 place + 2^16 event's refusal + 2^24 holds + 2^32 name.
  * The refusal is 0 also where an event is refused: that is a result. The place
- * is that within the slot, from 1, the event's refusal one of 5 to 15, the name
+ * is that within the slot, from 1, the event's refusal one of 5 to 17, the name
  * (r >> 32, in 64 bits) what that refusal names, and holds 0; where no event is
  * refused all three are 0, and holds is 1 if all readings hold at the end.
  * Refusals 20, 1, 2, 3, 4, 21, 22. */
