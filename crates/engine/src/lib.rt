@@ -173,13 +173,10 @@ fn attempt(
             if left == 1 {
                 if ends_answer(x, on, ask, event, readings) {
                     let part = put_grown(slot, depth, place, count, room);
-                    if part.more {
-                        return Part {
-                            count: part.count,
-                            more: true,
-                        };
-                    }
                     count = part.count;
+                    if part.more {
+                        return Part { count, more: true };
+                    }
                 }
             } else {
                 let node = Node {
@@ -191,13 +188,10 @@ fn attempt(
                 };
                 let after = next(ask.plan, x, event);
                 let part = explore(after, node, ask, events, readings, room);
-                if part.more {
-                    return Part {
-                        count: part.count,
-                        more: true,
-                    };
-                }
                 count = part.count;
+                if part.more {
+                    return Part { count, more: true };
+                }
             }
         }
         on = false;
