@@ -1,9 +1,5 @@
 use mathlib.Core.Path.{ap, _∙_}
-use Rattle.words.specs.Words.{if_then_else_}
-use Rattle.rulebook.specs.Situation.{station, _annulled}
-use Rattle.rulebook.specs.Place.{held-in-area}
 use Rattle.block.specs.Line.{owner}
-use Rattle.block.specs.declared.line.Name.{Name}
 use Rattle.situation.specs.Packed.{unpacked}
 use Rattle.events.proofs.Added.{added-as, nothing-added}
 use borrow.Author.Needs.{needs}
@@ -13,31 +9,24 @@ use Rattle.events.proofs.added_in_2012.Tie as tie
 returns : tie.Need-returns
 returns c =
     let a = c .before .before .before .before .args in
-    let x = unpacked (a .x) in
-    added-as (a .plan) x (a .event) (c .before .before .match .keys1)
-    (c .excluded-refusal .ensures ∙ ap (λ (s : Name). if station x s .bilc then 11 else if station x s .bslg then 16 else if held-in-area (a .plan) s x then 17 else 0) (c .before .station-named .ensures))
+    added-as (a .plan) (unpacked (a .x)) (a .event) (c .before .before .match .keys1) (rw (← c .before .station-named .ensures) (c .excluded-refusal .ensures))
 
 returns-2 : tie.Need-returns-2
 returns-2 c =
     let a = c .before .before .before .before .args in
-    let x = unpacked (a .x) in
-    added-as (a .plan) x (a .event) (c .before .before .match .keys2)
-    (c .excluded-refusal2 .ensures ∙ ap (λ (s : Name). if station x s .bilc then 11 else if station x s .bslg then 16 else if held-in-area (a .plan) s x then 17 else 0) (c .before .station-named2 .ensures))
+    added-as (a .plan) (unpacked (a .x)) (a .event) (c .before .before .match .keys2) (rw (← c .before .station-named2 .ensures) (c .excluded-refusal2 .ensures))
 
 returns-3 : tie.Need-returns-3
 returns-3 c =
     let a = c .before .before .before .before .args in
-    let x = unpacked (a .x) in
-    added-as (a .plan) x (a .event) (c .before .before .match .keys3)
-    (c .annulled-refusal .ensures ∙ ap (λ (s : Name). if station x s annulled then 8 else 0) (c .before .station-named3 .ensures))
+    added-as (a .plan) (unpacked (a .x)) (a .event) (c .before .before .match .keys3) (rw (← c .before .station-named3 .ensures) (c .annulled-refusal .ensures))
 
 returns-4 : tie.Need-returns-4
 returns-4 c =
     let g = c .before .before .before in
     let a = g .before .args in
-    let x = unpacked (a .x) in
-    added-as (a .plan) x (a .event) (c .before .before .match .keys4)
-    (c .annulled-refusal2 .ensures ∙ ap (λ (s : Name). if station x s annulled then 8 else 0) (c .before .owner .ensures ∙ ap (owner (a .plan)) (g .section-of .ensures)))
+    added-as (a .plan) (unpacked (a .x)) (a .event) (c .before .before .match .keys4)
+    (rw (← (c .before .owner .ensures ∙ ap (owner (a .plan)) (g .section-of .ensures))) (c .annulled-refusal2 .ensures))
 
 returns-5 : tie.Need-returns-5
 returns-5 c =
