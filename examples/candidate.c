@@ -22,14 +22,13 @@ static void run(const uint8_t *paper, size_t length, const uint8_t slot[6]) {
     int refusal = told & 255, place = told >> 8 & 255;
     int event_refusal = told >> 16 & 255, holds = told >> 24 & 255, name = told >> 32;
     if (refusal) printf("refused %d\n", refusal);
-    else if (event_refusal == 13 && name == 0) printf("event %d of the sequence is refused: 13, the ten seconds still run\n", place);
     else if (event_refusal == 13) printf("event %d of the sequence is refused: 13, section %d is occupied\n", place, name);
     else if (event_refusal == 9) printf("event %d of the sequence is refused: 9, exit route at %c\n", place, 'A' + name);
     else if (place) printf("event %d of the sequence is refused: %d\n", place, event_refusal);
     else puts(holds ? "all readings hold" : "not all readings hold");
 }
 
-/* Seconds to run 1,500 m at 100 km/h, with a tolerance of 50 thousandths. What cannot be read as a float is a blank. */
+/* Seconds to run 1,500 m at 100 km/h, with a tolerance of 50 thousandths. What is no number is a blank. */
 static void mark(const char *typed) {
     static const char *const verdicts[] = {"wrong", "right", "blank", "other unit", "no number"};
     uint8_t line[13];

@@ -4,20 +4,17 @@
  * target/staticlib; it is x86-64 code for Linux). Plans, situations, events,
  * questions, slots and sheet lines cross it as the bytes of document 01,
  * "Scope and exact rules: integrated line block papers", with requests 01 to
- * 06 of document 02; docs/RECORDS.md has every byte of them.
+ * 05 of document 02; docs/RECORDS.md has every byte of them.
  *
  *   plan       the record LB, 4 bytes, for the rules of 2024, or LC, 5 bytes,
  *              for those of 2012, as it stands in a question; it says the
  *              edition that a call judges by
- *   situation  as it stands in a question, the record that such a plan has: on
- *              up to 16 sections SI, 21 bytes, or SJ, 23 bytes, where a mark
- *              is set or a count runs (after a stray occupation); on 17 or
- *              more SK, 35 bytes, always
+ *   situation  the record SI, 21 bytes, or SJ, 23 bytes, where a mark is set
+ *              or a count runs, as it stands in a question
  *   event      two bytes, code and argument
  *   reading    two bytes, kind and argument
- *   question   the records LB or LC, SI, SJ or SK, EV, RD, LN end to end: the
- *              plan, the situation and the rest laid one after the other; at
- *              most 91 bytes
+ *   question   the records LB or LC, SI or SJ, EV, RD, LN end to end: the plan,
+ *              the situation and the rest laid one after the other
  *   slot       six bytes, a sequence of events: its length, then their places
  *              in EV from 1, then zeros
  *
@@ -69,9 +66,7 @@
  *       in the own area
  *   20  a record with wrong letters, bytes missing or left over, an EV or RD
  *       count out of range, SJ with mark and count zero, LC with another last
- *       byte than 1; SK where n is up to 16, SI or SJ where it is above, by the
- *       byte n alone, whether or not it is a plan; an event or a reading of
- *       another length than two
+ *       byte than 1; an event or a reading of another length than two
  *   21  LN above 5, an event listed twice, a reading out of range
  *   22  continuation or candidate's slot malformed, or not of six bytes
  *   23  numeric question or unit byte out of range
@@ -96,20 +91,19 @@
 extern "C" {
 #endif
 
-/* Whether a plan is accepted: n sections, 2 to 48, and a frontier b, 1 to n-1.
+/* Whether a plan is accepted: n sections, 2 to 16, and a frontier b, 1 to n-1.
  * Returns 0, or refusal 20 or 1. */
 uint8_t folvkin_plan(const uint8_t *plan, size_t plan_length);
 
-/* Whether a situation, in the record that such a plan has, is sound on it.
+/* Whether a situation is sound.
  * Returns 0, or refusal 20, 1 or 2. */
 uint8_t folvkin_situation(const uint8_t *plan, size_t plan_length, const uint8_t *situation,
                           size_t situation_length);
 
 /* Has an event happen.
- *   room  takes the situation after, as its record (21, 23 or 35 bytes), which
- *         with the length returned can be lent to the next call (with another
- *         room); less than 96 bytes is refused by 24, whatever the length
- *         written
+ *   room  takes the situation after, as its record, which with the length
+ *         returned can be lent to the next call (with another room); less
+ *         than 96 bytes is refused by 24, whatever the length written
  * Returns refusal + 2^8 name + 2^16 length. The name is the section (13) or the
  * station (9) that the refusal names, else 0; the length is how many bytes were
  * written, 0 where it refuses. Refusals 20, 1, 2, 3, 4, 24, then the event's
@@ -119,8 +113,8 @@ uint64_t folvkin_event(const uint8_t *plan, size_t plan_length, const uint8_t *s
                        size_t room_length);
 
 /* Shows the aspects of all signals: 0 red, 1 yellow, 2 green.
- *   room  takes 2n bytes, at most 96: the aspects of signals 1..n, then of
- *         129..128+n; less than 2n is refused by 24
+ *   room  takes 2n bytes: the aspects of signals 1..n, then of 129..128+n;
+ *         less than 2n is refused by 24
  * Returns 0, or refusal 20, 1, 2 or 24. Where it returns 0, no section has both
  * its signals off red. */
 uint8_t folvkin_aspects(const uint8_t *plan, size_t plan_length, const uint8_t *situation,

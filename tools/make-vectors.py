@@ -1,7 +1,7 @@
 #!/usr/bin/env python3
 """make-vectors.py CASES.tsv.. > crates/vectors/stdin: cases, a line each, as the compact records that the program `vectors` reads. Its cases are
-the outside ones, what number-cases.py prints, what question-cases.py prints of the papers marked-run, pending-sobb, link-down, ten-seconds,
-rules-2012 and long-line, what room-cases.py prints, and cases/key-program.tsv, in this order.
+the outside ones, what number-cases.py prints, what question-cases.py prints of the papers marked-run, pending-sobb, link-down and ten-seconds, what
+room-cases.py prints, and cases/key-program.tsv, in this order.
 
 A record is a head of 21 bytes, the case's three inputs, and what the call is to write into the room. The head has the kind of the case (1 byte), the
 length of the room (4), the number that the call is to answer (8), the lengths of the three inputs (2 each) and of all that follows the head (2).

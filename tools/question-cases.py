@@ -1,12 +1,12 @@
 #!/usr/bin/env python3
 """question-cases.py PAPER..: prints cases `question HEX<TAB>REFUSAL` for papers near accepted ones, each given as a file of its bytes: every
 single-byte change to a dozen telling values, every cut, and every lengthening by one byte. question-cases.py --verify FILE holds the judgment to
-the `question` cases of FILE. The judgment is written from document 01 and requests 01, 02, 05 and 06 of document 02 alone."""
+the `question` cases of FILE. The judgment is written from document 01 and requests 01, 02 and 05 of document 02 alone."""
 import sys
 
-MARKS = [(b"LB", b"LC"), (b"SI", b"SJ", b"SK"), (b"EV",), (b"RD",), (b"LN",)]
-SIZES = {b"LB": 2, b"LC": 3, b"SI": 19, b"SJ": 21, b"SK": 33, b"LN": 1}
-TELLING = [0, 1, 2, 3, 4, 5, 6, 7, 10, 11, 12, 13, 16, 17, 23, 24, 48, 49, 127, 128, 129, 255]
+MARKS = [(b"LB", b"LC"), (b"SI", b"SJ"), (b"EV",), (b"RD",), (b"LN",)]
+SIZES = {b"LB": 2, b"LC": 3, b"SI": 19, b"SJ": 21, b"LN": 1}
+TELLING = [0, 1, 2, 3, 4, 5, 6, 7, 10, 11, 12, 13, 23, 24, 127, 128, 129, 255]
 
 
 def parts(paper):
@@ -29,8 +29,6 @@ def parts(paper):
         if mark == b"LC" and paper[at + 2] != 1:
             return None
         if mark == b"SJ" and paper[at + 19:at + 21] == b"\0\0":
-            return None
-        if mark[:1] == b"S" and (mark == b"SK") != (bodies[0][0] > 16):
             return None
         bodies.append(paper[at:at + size])
         at += size
@@ -64,9 +62,8 @@ def sound(n, b, old, si):
     link, orient, annul, exits, pending = si[0], si[1:3], si[3:5], si[5:7], si[9]
     if link > 1 or max(orient) > 2 or max(annul) > 2 or max(exits) > 2 or max(si[7:9]) > 1 or pending > 2 or max(si[10:13]) > 3:
         return False
-    width = 6 if n > 16 else 2
-    occupied, held_b, held_a = (int.from_bytes(si[13 + at * width:13 + (at + 1) * width], "little") for at in range(3))
-    if len(si) > 19 and not watched(si[-2], si[-1], occupied, exits):
+    occupied, held_b, held_a = (si[at] + 256 * si[at + 1] for at in (13, 15, 17))
+    if len(si) == 21 and not watched(si[19], si[20], occupied, exits):
         return False
     if (occupied | held_b | held_a) >> n or held_b & 1 or held_a >> (n - 1) & 1:
         return False
@@ -111,7 +108,7 @@ def refusal(paper):
         return 20
     plan, si, ev, rd, ln = bodies
     n, b, old = plan[0], plan[1], len(plan) == 3
-    if not (2 <= n <= 48 and 1 <= b < n):
+    if not (2 <= n <= 16 and 1 <= b < n):
         return 1
     if not sound(n, b, old, si):
         return 2

@@ -2,10 +2,10 @@
 //! numbers, right ones and damaged ones.
 
 use crate::plain::key::{SLOT, START};
-use crate::plain::line::{MOST_SECTIONS, MOST_SHORT, Sections, section_bit};
-use crate::plain::records::{self, Letters, SI, SK};
-use crate::plain::situation::{AFBLE, AFBLI, IN, NONE, OUT, TEN_SECONDS};
-use crate::plain::{Edition, Event, Line, Parts, Plan, Question, Reading, Situation, events, readings};
+use crate::plain::situation::{AFBLE, AFBLI, IN, LENGTH, NONE, OUT, SHORT_LENGTH, TEN_SECONDS};
+use crate::plain::{
+    Edition, Event, Line, Parts, Plan, Question, Reading, Situation, events, readings, records,
+};
 use crate::random::Random;
 
 /// A plan of either edition.
@@ -14,64 +14,24 @@ pub fn line(r: &mut Random) -> Line {
     line_of(r, edition)
 }
 
-/// A plan of an edition, short and long ones alike, those around sixteen and
-/// forty-eight sections more often.
+/// A plan of an edition, with the least and greatest ones more often.
 pub fn line_of(r: &mut Random, edition: Edition) -> Line {
-    match r.below(8) {
-        0 => {
-            let n = r.pick(&[15, 16, 17, 18, 47, 48]);
-            let b = r.from(1, n - 1);
-            accepted_line(edition, n, b)
-        }
-        1..5 => short_line_of(r, edition),
-        _ => long_line_of(r, edition),
-    }
-}
-
-fn accepted_line(edition: Edition, n: u64, b: u64) -> Line {
-    Line::new(Plan::new(edition, n as u8, b as u8)).expect("a plan")
-}
-
-/// A plan of up to sixteen sections, with the least and greatest ones more
-/// often.
-pub fn short_line_of(r: &mut Random, edition: Edition) -> Line {
     let n = match r.below(4) {
         0 => r.pick(&[2, 3, 16]),
         1 => r.from(2, 6),
-        _ => r.from(2, MOST_SHORT.into()),
+        _ => r.from(2, 16),
     };
     let b = match r.below(4) {
         0 => r.pick(&[1, n - 1]),
         _ => r.from(1, n - 1),
     };
-    accepted_line(edition, n, b)
+    Line::new(Plan::new(edition, n as u8, b as u8)).expect("a plan")
 }
 
-/// A plan of more than sixteen sections, with the least and greatest ones more
-/// often, and with the frontier more often where a short plan ends.
-pub fn long_line_of(r: &mut Random, edition: Edition) -> Line {
-    let n = match r.below(4) {
-        0 => r.pick(&[17, 18, 32, 33, 47, 48]),
-        _ => r.from(u64::from(MOST_SHORT) + 1, MOST_SECTIONS.into()),
-    };
-    let b = match r.below(4) {
-        0 => r.pick(&[1, 15, 16, n - 1]),
-        _ => r.from(1, n - 1),
-    };
-    accepted_line(edition, n, b)
-}
-
-/// Another plan of the same edition, short or long as the one given.
-fn line_like(r: &mut Random, line: &Line) -> Line {
-    if line.plan().is_long() { long_line_of(r, line.edition()) } else { short_line_of(r, line.edition()) }
-}
-
-/// A set with few, some or many members. For one of the first sixteen sections
-/// a single word is drawn.
-fn set(r: &mut Random, within: Sections) -> Sections {
+/// A set with few, some or many members.
+fn set(r: &mut Random, within: u16) -> u16 {
     let bits = r.word();
-    let (first, second, third) =
-        if within >> MOST_SHORT == 0 { (bits, bits >> 16, bits >> 32) } else { (bits, r.word(), r.word()) };
+    let (first, second, third) = (bits as u16, (bits >> 16) as u16, (bits >> 32) as u16);
     within
         & match r.below(4) {
             0 => 0,
@@ -161,7 +121,7 @@ pub fn in_use(r: &mut Random, line: &Line) -> Situation {
 
 /// Held signals of one direction, of these block signals: none, some of one
 /// station's area or some of both.
-fn held(r: &mut Random, line: &Line, signals: Sections) -> Sections {
+fn held(r: &mut Random, line: &Line, signals: u16) -> u16 {
     match r.below(5) {
         0 => set(r, signals & line.area(0)),
         1 => set(r, signals & line.area(1)),
@@ -250,7 +210,7 @@ pub fn marked(r: &mut Random, line: &Line) -> Situation {
     if r.once_in(2) {
         return counting(r, line);
     }
-    let mut occupied = section_bit(section(r, line));
+    let mut occupied = 1 << (section(r, line) - 1);
     if r.once_in(2) {
         occupied |= set(r, line.all());
     }
@@ -271,37 +231,27 @@ pub fn reached_in_time(r: &mut Random, line: &Line) -> Situation {
 /// A situation without the mark: sound, in range, changed in some bytes, of any
 /// bytes.
 pub fn any_unmarked(r: &mut Random, line: &Line) -> Situation {
+    let mut bytes = [0; LENGTH];
     match r.below(8) {
-        0..3 => sound_or_reached(r, line),
-        3 | 4 => in_range(r, line),
+        0..3 => return sound_or_reached(r, line),
+        3 | 4 => return in_range(r, line),
         5 | 6 => {
-            let situation = sound_or_reached(r, line);
-            with_bytes(line, situation, |bytes| {
-                for _ in 0..r.from(1, 3) {
-                    let at = r.index(bytes.len());
-                    bytes[at] = changed_byte(r, bytes[at]);
-                }
-            })
+            bytes = sound_or_reached(r, line).to_bytes();
+            for _ in 0..r.from(1, 3) {
+                let at = r.index(SHORT_LENGTH);
+                bytes[at] = changed_byte(r, bytes[at]);
+            }
         }
-        _ => with_bytes(line, Situation::FRESH, |bytes| {
-            for byte in bytes {
+        _ => {
+            for byte in &mut bytes[..SHORT_LENGTH] {
                 *byte = if r.once_in(8) { r.byte() } else { r.below(4) as u8 };
             }
-        }),
+        }
     }
+    Situation::from_bytes(&bytes)
 }
 
-/// What is made of the bytes of a situation without the mark, as they stand in
-/// its record.
-fn with_bytes(line: &Line, situation: Situation, make: impl FnOnce(&mut [u8])) -> Situation {
-    let mut record = situation.to_record(line).to_vec();
-    // SK has mark and count too.
-    let end = record.len().min(SK - 2);
-    make(&mut record[2..end]);
-    records::situation(line.plan(), &mut &record[..]).expect("its record")
-}
-
-/// A situation for record SJ or SK: sound ones; marks and counts that do not go with
+/// A situation for record SJ: sound ones; marks and counts that do not go with
 /// each other or with the rest, or out of range; both zero; on any situation.
 pub fn any_marked(r: &mut Random, line: &Line) -> Situation {
     let marked = marked(r, line);
@@ -354,7 +304,7 @@ pub fn block_signal(r: &mut Random, line: &Line) -> u8 {
 
 /// One of the occupied sections, if there are some.
 fn occupied_section(r: &mut Random, line: &Line, situation: &Situation) -> u8 {
-    let is_occupied = |&k: &u8| situation.occupied & section_bit(k) != 0;
+    let is_occupied = |k: &u8| situation.occupied >> (k - 1) & 1 == 1;
     let occupied: Vec<u8> = (1..=line.sections()).filter(is_occupied).collect();
     if occupied.is_empty() { section(r, line) } else { r.pick(&occupied) }
 }
@@ -531,14 +481,12 @@ pub fn lent_plan(r: &mut Random) -> (Vec<u8>, Line) {
 }
 
 /// The same for a line: mostly the record of its plan, LB or LC, now and then
-/// with other numbers in it, those around the bounds of n among them, damaged
-/// now and then.
+/// with other numbers in it, damaged now and then.
 pub fn lent_plan_of(r: &mut Random, line: Line) -> (Vec<u8>, Line) {
     let mut plan = line.plan();
     match r.below(24) {
         0 => plan.sections = changed_byte(r, plan.sections),
-        1 => plan.sections = r.pick(&[0, 1, 15, 16, 17, 18, 47, 48, 49, 50, 60, 255]),
-        2 => plan.frontier = changed_byte(r, plan.frontier),
+        1 => plan.frontier = changed_byte(r, plan.frontier),
         _ => {}
     }
     let record = records::plan_record(plan);
@@ -560,38 +508,28 @@ fn mistaken_plan(r: &mut Random, plan: Plan) -> Vec<u8> {
     bytes
 }
 
-/// What is lent to a call as situation: a record of any situation, as it is for
-/// a plan of the line's length, sound by the line's edition or not, damaged now
-/// and then.
+/// What is lent to a call as situation: a record of any situation, SI or SJ,
+/// sound by the line's edition or not, damaged now and then.
 pub fn lent_situation(r: &mut Random, line: &Line) -> Vec<u8> {
-    let (record, situation) = match r.below(10) {
-        0..4 => own_record(line, any_unmarked(r, line)),
-        4 | 5 => own_record(line, paired(r, line)),
-        6 => own_record(line, reached_in_time(r, line)),
-        _ => {
-            let situation = any_marked(r, line);
-            (situation.to_record_with_mark(line).to_vec(), situation)
-        }
+    let record = match r.below(10) {
+        0..4 => any_unmarked(r, line).to_record().to_vec(),
+        4 | 5 => paired(r, line).to_record().to_vec(),
+        6 => reached_in_time(r, line).to_record().to_vec(),
+        _ => any_marked(r, line).to_long_record().to_vec(),
     };
     match r.below(40) {
         0 | 1 => damaged_record(r, &record),
-        2 => mistaken_record(r, &situation),
-        3 | 4 => r.pick(&Letters::ALL).record(&situation).to_vec(),
+        2 => mistaken_record(r, line),
         _ => record,
     }
 }
 
-fn own_record(line: &Line, situation: Situation) -> (Vec<u8>, Situation) {
-    (situation.to_record(line).to_vec(), situation)
-}
-
-/// The letters SI, SJ or SK before the bytes of either length, before so many
-/// as another of the three has or before some fewer or more.
-fn mistaken_record(r: &mut Random, situation: &Situation) -> Vec<u8> {
-    let mut bytes = r.pick(&[Letters::SJ, Letters::SK]).record(situation).to_vec();
-    bytes[..2].copy_from_slice(&r.pick(&[*b"SI", *b"SJ", *b"SK"]));
-    let around = r.pick(&Letters::ALL).length() as u64;
-    bytes.resize(r.from(around - 1, around + 1) as usize, 0);
+/// The letters SI or SJ before the bytes of either, or before some fewer or
+/// more.
+fn mistaken_record(r: &mut Random, line: &Line) -> Vec<u8> {
+    let letters = r.pick(&[b"SI", b"SJ"]);
+    let mut bytes = [&letters[..], &any_marked(r, line).to_bytes(), &[0, r.byte()]].concat();
+    bytes.truncate(r.from(records::SI as u64 - 1, records::SJ as u64 + 2) as usize);
     bytes
 }
 
@@ -700,7 +638,7 @@ fn question_from(
         };
         asked.push([kind, argument, value]);
     }
-    Parts { plan: line.plan(), situation: start, events: &listed, readings: &asked, length }
+    Parts { plan: line.plan(), situation: start.to_bytes(), events: &listed, readings: &asked, length }
         .accept()
         .expect("a question in range")
 }
@@ -735,16 +673,10 @@ pub fn with_situation(question: &Question, situation: &[u8]) -> Vec<u8> {
     bytes
 }
 
-/// The bytes of a question with others in the place of both.
-pub fn with_records(question: &Question, plan: &[u8], situation: &[u8]) -> Vec<u8> {
-    let [_, _, lists, ..] = records(question);
-    [plan, situation, &question_bytes(question)[lists..]].concat()
-}
-
 /// Where each record of a question starts, and the end.
 fn records(question: &Question) -> [usize; 6] {
     let situation = question.line().to_record().len();
-    let events = situation + question.situation().to_record(question.line()).len();
+    let events = situation + question.situation().to_record().len();
     let readings = events + 3 + 2 * question.events().len();
     let length = readings + 3 + 3 * question.readings().len();
     [0, situation, events, readings, length, length + 3]
@@ -810,17 +742,14 @@ pub fn damaged(r: &mut Random, question: &Question) -> Vec<u8> {
         // A plan, a situation, events and readings that do not belong
         // together.
         10 => {
-            let line = line_like(r, question.line());
+            let line = line_of(r, question.line().edition());
             if r.once_in(2) {
                 bytes[at[0]..at[1]].copy_from_slice(&line.to_record());
             }
             if r.once_in(2) {
-                let record = match at[2] - at[1] {
-                    SI => any_unmarked(r, &line).to_record(&line),
-                    SK if r.once_in(2) => any_unmarked(r, &line).to_record(&line),
-                    _ => any_marked(r, &line).to_record_with_mark(&line),
-                };
-                bytes[at[1]..at[2]].copy_from_slice(&record);
+                let situation =
+                    if at[2] - at[1] == records::SI { any_unmarked(r, &line) } else { any_marked(r, &line) };
+                bytes[at[1] + 2..at[2]].copy_from_slice(&situation.to_bytes()[..at[2] - at[1] - 2]);
             }
             let place = at[2] + 3 + 2 * r.index(count);
             bytes[place..place + 2].copy_from_slice(&event_bytes(r, &line));

@@ -3,11 +3,11 @@
 //! shapes.
 
 use crate::plain::marking::LINE_LENGTH;
-use crate::plain::records::{self, Letters};
 use crate::plain::refusal::number;
 use crate::plain::run::Run;
+use crate::plain::situation::LENGTH;
 use crate::plain::{
-    Aspects, Event, Line, Plan, Question, Refusal, Refused, Situation, key, marking, readings, run,
+    Aspects, Event, Line, Plan, Question, Refusal, Refused, Situation, key, marking, readings, records, run,
 };
 use crate::told;
 
@@ -102,16 +102,15 @@ pub struct Plain;
 /// Plan and situation as they stand in their records.
 struct Given {
     plan: Plan,
-    situation: Situation,
+    situation: [u8; LENGTH],
 }
 
 impl Given {
-    /// 20 where they are not exactly such records, or the situation's is not
-    /// for a plan of this length.
+    /// 20 where they are not exactly such records.
     #[inline]
     fn read(plan: &[u8], situation: &[u8]) -> Result<Given, Refusal> {
         let plan = records::alone(plan, records::plan)?;
-        let situation = records::alone(situation, |bytes| records::situation(plan, bytes))?;
+        let situation = records::alone(situation, records::situation)?;
         Ok(Given { plan, situation })
     }
 
@@ -119,7 +118,7 @@ impl Given {
     #[inline]
     fn judge(&self) -> Result<(Line, Situation), Refusal> {
         let line = Line::new(self.plan)?;
-        Ok((line, self.situation.judged(&line)?))
+        Ok((line, Situation::read(&line, &self.situation)?))
     }
 }
 
@@ -149,7 +148,7 @@ fn event_written(plan: &[u8], situation: &[u8], event: &[u8], room: &mut [u8]) -
     event.check(&line)?;
     let room = room.first_chunk_mut::<EVENT_ROOM>().ok_or(Refusal::Room)?;
     situation.apply_named(&line, event)?;
-    Ok(Letters::of(line.plan(), &situation).write(&situation, room))
+    Ok(records::write_situation(&situation.to_bytes(), room))
 }
 
 #[inline]

@@ -1,4 +1,4 @@
-//! Document 01 with requests 01, 02, 05 and 06 of document 02 in plain Rust
+//! Document 01 with requests 01, 02 and 05 of document 02 in plain Rust
 //! ([`plain`]), the proved library behind a safe wrapper (`ffi`, or `bridge` on
 //! a processor that the library is not compiled for), and what the programs of
 //! this package share: the calls ([`interface`]) and the numbers they return

@@ -1,5 +1,5 @@
-//! The marked examples of document 01, laws that it states, and requests 01, 02,
-//! 05 and 06 of document 02, on the plain implementation.
+//! The marked examples of document 01, laws that it states, and requests 01, 02
+//! and 05 of document 02, on the plain implementation.
 
 use folvkin_compare::cases::from_hex;
 use folvkin_compare::generate::{self, Search};
@@ -20,7 +20,7 @@ fn line(edition: Edition, sections: u8, frontier: u8) -> Line {
     Line::new(Plan::new(edition, sections, frontier)).unwrap()
 }
 
-/// Plan 4, 2 unless told, from the fresh situation.
+/// Plan 4, 2, from the fresh situation.
 #[derive(Clone, Copy)]
 struct Example {
     line: Line,
@@ -77,11 +77,7 @@ impl Example {
     }
 
     fn aspects(&self) -> [u8; 8] {
-        self.all_aspects().try_into().unwrap()
-    }
-
-    fn all_aspects(&self) -> Vec<u8> {
-        let mut room = vec![9; 2 * usize::from(self.line.sections())];
+        let mut room = [9; 8];
         Aspects::of(&self.line, &self.situation).write(&self.line, &mut room);
         room
     }
@@ -163,7 +159,7 @@ fn example_10() {
 fn the_run_by_program() {
     let parts = Parts {
         plan: Plan::new(Edition::Of2024, 4, 2),
-        situation: Situation::FRESH,
+        situation: Situation::FRESH.to_bytes(),
         events: &[[1, A], [2, B], [14, A], [17, B]],
         readings: &[[1, 1, 2]],
         length: 4,
@@ -268,7 +264,7 @@ fn only_9_and_13_name() {
 fn runs_tell_the_name() {
     let parts = Parts {
         plan: Plan::new(Edition::Of2024, 4, 2),
-        situation: Situation::FRESH,
+        situation: Situation::FRESH.to_bytes(),
         events: &[[1, A], [2, B], [14, A], [14, B], [19, 3], [19, 2], [6, A], [1, B], [2, A], [6, B]],
         readings: &[],
         length: 5,
@@ -781,183 +777,6 @@ fn the_paper_of_2012() {
 const BY_2012: usize = 46;
 const BY_2024: usize = 564;
 
-/// "New trunk plans need n up to 48", "1 now above 48".
-#[test]
-fn plans_have_up_to_48_sections() {
-    for edition in Edition::ALL {
-        for n in 0..=255u8 {
-            for b in 0..=255u8 {
-                let is_plan = (2..=48).contains(&n) && (1..n).contains(&b);
-                assert_eq!(Line::new(Plan::new(edition, n, b)).is_ok(), is_plan);
-            }
-        }
-    }
-}
-
-/// The signals of section k are k and 128 + k, up to 48 and 176; all but 1 and
-/// 128 + n are block signals.
-#[test]
-fn signals_are_named_as_ever() {
-    for n in 2..=48 {
-        let line = line(Edition::Of2024, n, n / 2);
-        for argument in 0..=255u8 {
-            let section = argument & 127;
-            let is_signal = 1 <= section && section <= n;
-            let is_block_signal = is_signal && argument != 1 && argument != 128 + n;
-            let refusal = |code: u8| Event { code, argument }.check(&line).err().map_or(0, |by| by as u8);
-            for code in [10, 11] {
-                assert_eq!(refusal(code), if is_block_signal { 0 } else { 4 });
-            }
-            for code in [19, 20] {
-                assert_eq!(refusal(code), if is_signal && argument < 128 { 0 } else { 4 });
-            }
-            assert_eq!(readings::greatest_value(&line, readings::ASPECT, argument).is_ok(), is_signal);
-        }
-    }
-}
-
-/// Each section and each signal of the longest line alone: a bit that names no
-/// section or an exit signal gives 2.
-#[test]
-fn bits_name_sections() {
-    for n in 2..=48 {
-        let line = line(Edition::Of2024, n, n / 2);
-        for k in 1..=48 {
-            let set = 1 << (k - 1);
-            let fresh = Situation::FRESH;
-            assert_eq!(Situation { occupied: set, ..fresh }.is_sound(&line), k <= n);
-            assert_eq!(Situation { held_towards_b: set, ..fresh }.is_sound(&line), 1 < k && k <= n);
-            assert_eq!(Situation { held_towards_a: set, ..fresh }.is_sound(&line), k < n);
-        }
-    }
-}
-
-/// The second marked example on lines of every length: towards B the block
-/// signals are green, the last one yellow, as no entry route is set.
-#[test]
-fn example_2_on_lines_of_every_length() {
-    for n in 2..=48 {
-        for b in 1..n {
-            let mut example = Example { line: line(Edition::Of2024, n, b), situation: Situation::FRESH };
-            assert_eq!((example.event(1, A), example.event(2, B)), (0, 0));
-            let mut due = vec![2; n.into()];
-            (due[0], due[usize::from(n) - 1]) = (0, 1);
-            due.resize(2 * usize::from(n), 0);
-            assert_eq!(example.all_aspects(), due);
-            assert_eq!((example.event(14, A), example.event(17, B)), (0, 0));
-            (due[0], due[usize::from(n) - 1]) = (2, 2);
-            assert_eq!(example.all_aspects(), due);
-            assert_eq!(example.told(14, B), (15, 0));
-            // "A next signal across the frontier is read as red when link is
-            // down."
-            assert_eq!(example.event(21, 0), 0);
-            due[usize::from(b) - 1] = 1;
-            assert_eq!(example.all_aspects(), due);
-        }
-    }
-}
-
-/// A train runs over long lines section by section, each of them expected; 13
-/// names the lowest one that it stands on, its signal is red and the one behind
-/// it yellow.
-#[test]
-fn a_train_runs_over_long_lines() {
-    for (n, b) in [(16, 8), (17, 8), (17, 16), (32, 16), (33, 32), (47, 1), (48, 24), (48, 47)] {
-        let mut example = Example { line: line(Edition::Of2012, n, b), situation: Situation::FRESH };
-        for (code, argument) in [(1, A), (2, B), (14, A), (19, 1), (16, A)] {
-            assert_eq!(example.event(code, argument), 0);
-        }
-        for k in 2..=n {
-            assert_eq!(example.event(19, k), 0);
-            assert_eq!(example.told(14, B), (13, k - 1));
-            assert_eq!(example.event(20, k - 1), 0);
-            assert_eq!(example.told(15, B), (13, k));
-            assert_eq!(example.stray(), (0, 0));
-            let aspects = example.all_aspects();
-            assert_eq!(aspects[usize::from(k) - 1], 0);
-            assert_eq!(aspects[usize::from(k) - 2], u8::from(k > 2));
-        }
-        assert_eq!(example.event(20, n), 0);
-        assert_eq!(example.told(14, B), (0, 0));
-    }
-}
-
-/// A line that is stretched at the frontier, by sections that are free, has the
-/// same rules: the same event, its section or signal moved along, is refused
-/// alike or leads to the same.
-#[test]
-fn longer_lines_have_the_same_rules() {
-    let r = &mut Random::new(23);
-    for _ in 0..100_000 {
-        let edition = r.pick(&Edition::ALL);
-        let short = generate::short_line_of(r, edition);
-        let (n, b) = (short.sections(), short.frontier());
-        let added = r.from(1, u64::from(48 - n)) as u8;
-        let long = line(edition, n + added, b);
-        let before = generate::reached_in_time(r, &short);
-        let stretched = |s: Situation| {
-            let area_a = (1 << b) - 1;
-            let moved = |set: u64| set & area_a | (set & !area_a) << added;
-            Situation {
-                occupied: moved(s.occupied),
-                held_towards_b: moved(s.held_towards_b),
-                held_towards_a: moved(s.held_towards_a),
-                ..s
-            }
-        };
-        let event = generate::event_in_time(r, &short, &before);
-        // The sections on both sides of the frontier are no longer next to each
-        // other.
-        if event.code == 19 && [b, b + 1].contains(&event.argument) {
-            continue;
-        }
-        let moved = |k: u8| if k & 127 > b { k + added } else { k };
-        let argument =
-            if matches!(event.code, 10 | 11 | 19 | 20) { moved(event.argument) } else { event.argument };
-        assert!(before.is_sound(&short) && stretched(before).is_sound(&long));
-        let (mut after, mut after_long) = (before, stretched(before));
-        let told = after.try_event(&short, event);
-        let told_long = after_long.try_event(&long, Event { argument, ..event });
-        let renamed = told.map_err(|by| match by.refusal {
-            Refusal::TrackNotFree if by.name != 0 => Refused { name: moved(by.name), ..by },
-            _ => by,
-        });
-        assert_eq!((told_long, after_long), (renamed, stretched(after)));
-    }
-}
-
-/// An event is listed twice only if code and argument are the same, of all that
-/// a line of 48 sections has.
-#[test]
-fn events_of_long_lines_are_told_apart() {
-    let plan = Plan::new(Edition::Of2024, 48, 24);
-    let line = Line::new(plan).unwrap();
-    let pairs = || (1..=23).flat_map(|code| (0..=255).map(move |argument| [code, argument]));
-    let is_event = |&[code, argument]: &[u8; 2]| Event { code, argument }.check(&line).is_ok();
-    let events: Vec<[u8; 2]> = pairs().filter(is_event).collect();
-    assert_eq!(events.len(), 2 * 16 + 2 * 94 + 2 * 48 + 3);
-    let refusal = |events: &[[u8; 2]]| {
-        let parts = Parts { plan, situation: Situation::FRESH, events, readings: &[], length: 0 };
-        parts.accept().err()
-    };
-    for (index, &first) in events.iter().enumerate() {
-        assert_eq!(refusal(&[first, first]), Some(Refusal::Listing));
-        for &second in &events[..index] {
-            assert_eq!(refusal(&[first, second]), None);
-        }
-    }
-}
-
-/// The paper `long-line.bin` and how many sequences its key has.
-#[test]
-fn the_paper_of_a_long_line() {
-    let question = Question::read(include_bytes!("../../papers/long-line.bin")).unwrap();
-    assert_eq!(question.line().sections(), 48);
-    assert_eq!(whole_key(&question).len(), ON_A_LONG_LINE * SLOT);
-}
-
-const ON_A_LONG_LINE: usize = 202;
-
 /// "Every accepted event leads from a sound situation to a sound one."
 #[test]
 fn soundness_is_kept() {
@@ -1011,7 +830,7 @@ fn keys_wait_for_the_count() {
     let situation = Situation { orientation: [OUT, IN], mark: 1, count: 2, ..Situation::FRESH };
     let parts = Parts {
         plan: Plan::new(Edition::Of2024, 4, 2),
-        situation,
+        situation: situation.to_bytes(),
         events: &[[23, 0], [14, B]],
         readings: &[[4, B, 1]],
         length: 4,

@@ -1,6 +1,6 @@
 //! What generated cases contain: each way in which an order meets what is on
-//! the line, all that can become of mark and count, plans of both editions with
-//! all that the 2012 rules exclude, and lines of all lengths with their records.
+//! the line, all that can become of mark and count, and plans of both editions
+//! with all that the 2012 rules exclude.
 
 use std::collections::BTreeMap;
 
@@ -11,9 +11,8 @@ use folvkin_compare::plain::events::{
     SOBB,
 };
 use folvkin_compare::plain::keytext::whole_key;
-use folvkin_compare::plain::records::{self, Letters, SI, SJ, SK};
 use folvkin_compare::plain::run::{Run, run};
-use folvkin_compare::plain::situation::{IN, NONE};
+use folvkin_compare::plain::situation::{IN, LENGTH, NONE};
 use folvkin_compare::plain::{Edition, Event, Line, Question, Refusal, Refused, Situation};
 use folvkin_compare::random::Random;
 
@@ -189,119 +188,31 @@ fn runs_with_seconds_go_all_ways() {
 }
 
 #[test]
-fn lent_situations_are_of_all_records() {
+fn lent_situations_are_of_both_records() {
     let r = &mut Random::new(17);
     let mut things = Things::default();
-    for _ in 0..80_000 {
+    for _ in 0..40_000 {
         let line = generate::line(r);
+        let plan = line.to_record();
         let lent = generate::lent_situation(r, &line);
-        let refusal = Plain::situation(&line.to_record(), &lent);
-        if line.plan().is_long() {
-            things.add_sk(&lent, refusal);
-        } else {
-            things.add_si_or_sj(&lent, refusal);
-        }
+        let refusal = Plain::situation(&plan, &lent);
+        let is_long = lent.starts_with(b"SJ");
+        let body = lent.get(2..).and_then(|body| body.as_array::<LENGTH>());
+        let [mark, count] = body.map_or([0, 0], |body| [body[LENGTH - 2], body[LENGTH - 1]]);
+        things.add("SI, sound", !is_long && refusal == 0);
+        things.add("SJ, sound, count running", is_long && refusal == 0 && count > 0);
+        things.add("SJ, sound, section occupied", is_long && refusal == 0 && count == 0);
+        things.add("SJ, mark above 1", is_long && refusal == 2 && mark > 1);
+        things.add("SJ, count above 10", is_long && refusal == 2 && mark == 1 && count > 10);
+        things.add("SJ, count without mark", is_long && refusal == 2 && mark == 0 && count > 0);
+        things.add("SJ, pair in range, not sound", is_long && refusal == 2 && mark == 1 && count <= 10);
+        things.add("SJ, both zero", is_long && refusal == 20 && body.is_some() && [mark, count] == [0, 0]);
+        things.add("SJ, one byte missing", is_long && lent.len() == LENGTH + 1);
+        things.add("SJ, both missing", is_long && lent.len() == LENGTH);
+        things.add("SJ, bytes left over", is_long && lent.len() > LENGTH + 2);
+        things.add("SI, mark and count left over", lent.starts_with(b"SI") && body.is_some());
     }
     things.all_came(20);
-}
-
-impl Things {
-    /// What is lent on a line of up to sixteen sections.
-    fn add_si_or_sj(&mut self, lent: &[u8], refusal: u8) {
-        let is_sj = lent.starts_with(b"SJ");
-        let is_whole = lent.len() == SJ;
-        let [mark, count] = mark_and_count(lent);
-        self.add("SI, sound", lent.starts_with(b"SI") && refusal == 0);
-        self.add("SJ, sound, count running", is_sj && refusal == 0 && count > 0);
-        self.add("SJ, sound, section occupied", is_sj && refusal == 0 && count == 0);
-        self.add("SJ, mark above 1", is_sj && refusal == 2 && mark > 1);
-        self.add("SJ, count above 10", is_sj && refusal == 2 && mark == 1 && count > 10);
-        self.add("SJ, count without mark", is_sj && refusal == 2 && mark == 0 && count > 0);
-        self.add("SJ, pair in range, not sound", is_sj && refusal == 2 && mark == 1 && count <= 10);
-        self.add("SJ, both zero", is_sj && refusal == 20 && is_whole && [mark, count] == [0, 0]);
-        self.add("SJ, one byte missing", is_sj && lent.len() == SJ - 1);
-        self.add("SJ, both missing", is_sj && lent.len() == SI);
-        self.add("SJ, bytes left over", is_sj && lent.len() > SJ);
-        self.add("SJ, as long as SK", is_sj && lent.len() == SK);
-        self.add("SI, mark and count left over", lent.starts_with(b"SI") && is_whole);
-        self.add("SK on a short line", lent.starts_with(b"SK") && lent.len() == SK && refusal == 20);
-        self.add("SK as long as SJ", lent.starts_with(b"SK") && is_whole && refusal == 20);
-    }
-
-    /// What is lent on a longer line.
-    fn add_sk(&mut self, lent: &[u8], refusal: u8) {
-        let is_sk = lent.starts_with(b"SK");
-        let is_whole = lent.len() == SK;
-        let [mark, count] = mark_and_count(lent);
-        self.add("SK, sound, both zero", is_sk && refusal == 0 && [mark, count] == [0, 0]);
-        self.add("SK, sound, count running", is_sk && refusal == 0 && count > 0);
-        self.add("SK, sound, section occupied", is_sk && refusal == 0 && mark == 1 && count == 0);
-        self.add("SK, mark above 1", is_sk && refusal == 2 && mark > 1);
-        self.add("SK, count above 10", is_sk && refusal == 2 && mark == 1 && count > 10);
-        self.add("SK, not sound, both zero", is_sk && refusal == 2 && [mark, count] == [0, 0]);
-        self.add("SK, one byte missing", is_sk && lent.len() == SK - 1);
-        self.add("SK, one byte left over", is_sk && lent.len() == SK + 1);
-        self.add("SK, as long as SJ", is_sk && lent.len() == SJ);
-        self.add("SI on a long line", lent.starts_with(b"SI") && lent.len() == SI && refusal == 20);
-        self.add("SJ on a long line", lent.starts_with(b"SJ") && lent.len() == SJ && refusal == 20);
-        self.add("SI as long as SK", lent.starts_with(b"SI") && is_whole && refusal == 20);
-    }
-}
-
-/// The last two bytes of a record SJ or SK.
-fn mark_and_count(record: &[u8]) -> [u8; 2] {
-    match Letters::of_whole(record) {
-        Some(Letters::SJ | Letters::SK) => *record.last_chunk().unwrap(),
-        _ => [0, 0],
-    }
-}
-
-/// Lines of every length come, half of them long, and those around sixteen and
-/// forty-eight sections often; so do plans that are none.
-#[test]
-fn lines_have_all_lengths() {
-    let r = &mut Random::new(24);
-    let mut lengths = [0; 256];
-    let mut none = [0; 256];
-    for _ in 0..200_000 {
-        lengths[usize::from(generate::line(r).sections())] += 1;
-        let (lent, _) = generate::lent_plan(r);
-        if Plain::plan(&lent) == 1 {
-            none[usize::from(lent[2])] += 1;
-        }
-    }
-    assert!((2..=48).all(|n| lengths[n] >= 1_000), "{lengths:?}");
-    assert!([15, 16, 17, 18, 47, 48].iter().all(|&n| lengths[n] >= 4_000), "{lengths:?}");
-    let long: u32 = lengths[17..].iter().sum();
-    assert!((90_000..110_000).contains(&long), "{long}");
-    assert!([0, 1, 49, 50, 60, 255].iter().all(|&n| none[n] >= 300), "{none:?}");
-}
-
-/// Each bit of the six bytes of each section field comes, in situations that are
-/// sound and, where it names no section, in such as are not.
-#[test]
-fn every_bit_of_a_section_field_comes() {
-    let r = &mut Random::new(25);
-    let mut bits = [[[0; 48]; 2]; 3];
-    for _ in 0..100_000 {
-        let line = generate::line(r);
-        let lent = generate::lent_situation(r, &line);
-        let Ok(situation) = records::alone(&lent, |bytes| records::situation(line.plan(), bytes)) else {
-            continue;
-        };
-        let is_sound = situation.is_sound(&line);
-        for (field, set) in situation.sections().into_iter().enumerate() {
-            for bit in (0..48).filter(|bit| set >> bit & 1 == 1) {
-                bits[field][usize::from(is_sound)][bit] += 1;
-            }
-        }
-    }
-    // Signals 1 and 176 are exit signals.
-    let least = [(0, 0..48), (1, 1..48), (2, 0..47)];
-    for (field, sound) in least {
-        assert!(bits[field][0].iter().all(|&times| times >= 100), "{:?}", bits[field]);
-        assert!(bits[field][1][sound].iter().all(|&times| times >= 20), "{:?}", bits[field]);
-    }
 }
 
 /// Refusal (0 for accepted), code and station of an order that the 2012 rules
@@ -360,7 +271,7 @@ fn orders_meet_what_they_exclude() {
     let r = &mut Random::new(20);
     let mut exclusions = Exclusions::default();
     let mut things = Things::default();
-    for _ in 0..20_000 {
+    for _ in 0..10_000 {
         let line = generate::line(r);
         let paired = generate::paired(r, &line);
         let unpaired = generate::unpaired(r, &line, paired);

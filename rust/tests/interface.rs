@@ -6,7 +6,6 @@ use folvkin_compare::cases::{Case, Kept, Kind, answer_to, plain};
 use folvkin_compare::generate::{self, Search};
 use folvkin_compare::interface::{EVENT_ROOM, Interface, Plain};
 use folvkin_compare::plain::key::{SLOT, START};
-use folvkin_compare::plain::records::Letters;
 use folvkin_compare::plain::{Edition, Line, Plan, Situation};
 use folvkin_compare::random::Random;
 use folvkin_compare::{told, with_the_calls};
@@ -214,9 +213,8 @@ fn marks_are_refused_in_order() {
 /// The second marked example, by calls alone.
 #[test]
 fn what_an_event_wrote_is_lent_to_the_next() {
-    let line = Line::new(Plan::new(Edition::Of2024, 4, 2)).unwrap();
-    let plan = line.to_record();
-    let mut situation = Situation::FRESH.to_record(&line).to_vec();
+    let plan = Line::new(Plan::new(Edition::Of2024, 4, 2)).unwrap().to_record();
+    let mut situation = Situation::FRESH.to_record().to_vec();
     let mut happen = |event: [u8; 2]| {
         let mut room = [0; EVENT_ROOM];
         let told = told::Event::from(Plain::event(&plan, &situation, &event, &mut room));
@@ -348,101 +346,6 @@ fn the_last_byte_of_lc_is_1() {
     }
 }
 
-/// The fresh situation and one on which the count runs, as records SI, SJ and
-/// SK; SJ with both zero.
-const RECORDS: [&[u8]; 5] = [
-    b"SI\x01\0\0\0\0\0\0\0\0\0\0\0\0\0\0\0\0\0\0",
-    b"SJ\x01\0\0\0\0\0\0\0\0\0\0\0\0\0\0\0\0\0\0\x01\x0a",
-    b"SJ\x01\0\0\0\0\0\0\0\0\0\0\0\0\0\0\0\0\0\0\0\0",
-    b"SK\x01\0\0\0\0\0\0\0\0\0\0\0\0\0\0\0\0\0\0\0\0\0\0\0\0\0\0\0\0\0\0\0\0",
-    b"SK\x01\0\0\0\0\0\0\0\0\0\0\0\0\0\0\0\0\0\0\0\0\0\0\0\0\0\0\0\0\0\0\x01\x0a",
-];
-
-/// "20 for SK on a short plan or SJ or SI on a long one; 1 now above 48": by n
-/// alone, whether or not it is a plan, in every call that takes both.
-#[test]
-fn records_are_for_plans_of_their_length() {
-    for n in 0..=255u8 {
-        for (edition, b) in [(2024, 1), (2012, 1), (2024, n), (2012, n.wrapping_sub(1))] {
-            let plan = match edition {
-                2024 => vec![b'L', b'B', n, b],
-                _ => vec![b'L', b'C', n, b, 1],
-            };
-            let due_plan = if (2..=48).contains(&n) && 1 <= b && b < n { 0 } else { 1 };
-            assert_eq!(Plain::plan(&plan), due_plan);
-            for situation in RECORDS {
-                let is_due = match situation[1] {
-                    b'I' => n <= 16,
-                    b'J' => n <= 16 && !situation.ends_with(&[0, 0]),
-                    _ => n > 16,
-                };
-                let due = if is_due { due_plan } else { 20 };
-                assert_eq!(Plain::situation(&plan, situation), due);
-                let event = Plain::event(&plan, situation, &[23, 0], &mut [0; EVENT_ROOM]);
-                assert_eq!(told::Event::from(event).refusal, due);
-                assert_eq!(Plain::aspects(&plan, situation, &mut [0; 96]), due);
-                let reading = Plain::reading(&plan, situation, &[5, 0]);
-                assert_eq!(told::Reading::from(reading).refusal, due);
-                let question = [&plan[..], situation, LISTS[0].0].concat();
-                assert_eq!(Plain::question(&question), due);
-                assert_eq!(told::Key::from(Plain::key(&question, &START, &mut [0; 6])).refusal, due);
-                assert_eq!(told::Run::from(Plain::run(&question, &[0; SLOT])).refusal, due);
-            }
-        }
-    }
-}
-
-/// A record SK cut at each length and with bytes left over is 20; with other
-/// letters too.
-#[test]
-fn sk_has_33_bytes() {
-    let plan = b"LB\x30\x18";
-    for record in [RECORDS[3], RECORDS[4]] {
-        let longer = [record, &[0; 12]].concat();
-        for length in 0..longer.len() {
-            let due = if length == 35 { 0 } else { 20 };
-            assert_eq!(Plain::situation(plan, &longer[..length]), due);
-        }
-        for letters in [b"SI", b"SJ", b"SL", b"KS", b"sk"] {
-            assert_eq!(Plain::situation(plan, &[letters, &record[2..]].concat()), 20);
-        }
-    }
-}
-
-/// On the longest line, by calls alone: sections far along it become occupied
-/// and free, each in its own bit of six bytes, and mark and count stand last.
-#[test]
-fn sk_is_written_with_mark_and_count_last() {
-    let plan = b"LB\x30\x18";
-    for k in 1..=48u8 {
-        let mut occupied = RECORDS[3].to_vec();
-        occupied[15 + usize::from((k - 1) / 8)] = 1 << ((k - 1) % 8);
-        occupied[33] = 1;
-        let mut room = [7; EVENT_ROOM];
-        assert_eq!(Plain::event(plan, RECORDS[3], &[19, k], &mut room), 35 << 16);
-        assert_eq!((&room[..35], &room[35..]), (&occupied[..], &[7; 61][..]));
-        assert_eq!(Plain::event(plan, &occupied, &[19, k], &mut room), 5);
-        assert_eq!(Plain::event(plan, &occupied, &[20, k], &mut room), 35 << 16);
-        assert_eq!(&room[..35], RECORDS[4]);
-        for (signal, field) in [(k, 21), (128 + k, 27)] {
-            let mut held = RECORDS[3].to_vec();
-            held[field + usize::from((k - 1) / 8)] = 1 << ((k - 1) % 8);
-            let due = if matches!(signal, 1 | 176) { 4 } else { 35 << 16 };
-            assert_eq!(Plain::event(plan, RECORDS[3], &[10, signal], &mut room), due);
-            assert_eq!(Plain::situation(plan, &held), if due == 4 { 2 } else { 0 });
-            assert!(due == 4 || room[..35] == held);
-        }
-    }
-    assert_eq!(Plain::event(plan, RECORDS[3], &[19, 49], &mut [0; EVENT_ROOM]), 4);
-    assert_eq!(Plain::event(plan, RECORDS[3], &[10, 177], &mut [0; EVENT_ROOM]), 4);
-    assert_eq!(Plain::event(plan, RECORDS[3], &[19, 48], &mut [0; EVENT_ROOM - 1]), 24);
-    let mut aspects = [7; 97];
-    assert_eq!(Plain::aspects(plan, RECORDS[3], &mut aspects[..95]), 24);
-    assert_eq!(aspects, [7; 97]);
-    assert_eq!(Plain::aspects(plan, RECORDS[3], &mut aspects), 0);
-    assert_eq!((&aspects[..96], aspects[96]), (&[0; 96][..], 7));
-}
-
 /// A annulled by AFBLI with BILC, with BSLG, and with signals 2, 129 and 130
 /// held.
 const PAIRS: [&[u8; 21]; 5] = [
@@ -514,7 +417,7 @@ fn runs_are_events_one_by_one() {
         };
         let bytes = generate::question_bytes(&question);
         let plan = &question.line().to_record()[..];
-        let mut situation = question.situation().to_record(question.line()).to_vec();
+        let mut situation = question.situation().to_record().to_vec();
         assert!(bytes.starts_with(&[plan, &situation].concat()));
         let slot = generate::slot(r, &question, &[]);
         let mut right = told::Run::default();
@@ -550,7 +453,7 @@ fn aspects_are_readings() {
         } else {
             generate::reached_in_time(r, &line)
         };
-        let (plan, situation) = (line.to_record(), situation.to_record(&line));
+        let (plan, situation) = (line.to_record(), situation.to_record());
         let n = line.sections();
         let mut room = vec![9; 2 * usize::from(n)];
         assert_eq!(Plain::aspects(&plan, &situation, &mut room), 0);
@@ -580,7 +483,7 @@ fn numbers_read_back() {
 /// A case written as text is that case again.
 #[test]
 fn cases_read_back() {
-    let (plan, situation, room) = (b"LB\x04\x02", Letters::SI.record(&Situation::FRESH), [1; 100]);
+    let (plan, situation, room) = (b"LB\x04\x02", Situation::FRESH.to_record(), [1; 100]);
     let cases = [
         Case::plan(&[]),
         Case::situation(plan, &situation),
@@ -621,10 +524,6 @@ fn answers_are_those_of_the_vectors_files() {
     let bslg = "534901000000000000000000000100000000000000";
     let held = "534901000000000000000000000000000002000000";
     let pair = "534901000001000000000000000100000000000000";
-    let long = "4c423018";
-    let on_long = format!("534b01{}", "00".repeat(32));
-    let far_along = format!("534b010102{}80{}", "00".repeat(15), "00".repeat(14));
-    let in_time = format!("534b01{}010a", "00".repeat(30));
     let of_exclusions = format!("{by_2012}{fresh}4556030800030009005244010300014c4e03");
     let question = format!("{plan}{fresh}455602010002015244010200014c4e02");
     let on_occupied = format!("{plan}{occupied}4556010e015244004c4e01");
@@ -670,24 +569,6 @@ fn answers_are_those_of_the_vectors_files() {
         (format!("run {of_exclusions} 020102000000"), "0 2 16 0 0".into()),
         (format!("run {of_exclusions} 030103020000"), "0 0 0 0 1".into()),
         (format!("keytext {of_exclusions}"), "1 3 2|2|total 2|".into()),
-        (format!("plan {long}"), "0".into()),
-        ("plan 4c423118".into(), "1".into()),
-        (format!("sound {long} {on_long}"), "0".into()),
-        (format!("sound {long} {fresh}"), "20".into()),
-        (format!("sound {long} {counting}"), "20".into()),
-        (format!("sound {plan} {on_long}"), "20".into()),
-        (format!("sound 4c423c18 {on_long}"), "1".into()),
-        (format!("sound 4c423c18 {fresh}"), "20".into()),
-        (format!("sound 4c422f18 {far_along}"), "2".into()),
-        (format!("event {long} {far_along} 0e01 96"), "13 48 -".into()),
-        (
-            format!("event {long} {in_time} 1330 96"),
-            format!("0 0 534b01{}80{}0100", "00".repeat(17), "00".repeat(12)),
-        ),
-        (format!("aspects {long} {on_long} 96"), format!("0 {}", "00".repeat(96))),
-        (format!("aspects {long} {on_long} 95"), "24 -".into()),
-        (format!("reading {long} {in_time} 0500"), "0 1".into()),
-        (format!("keytext {long}{far_along}45560214300e015244010401014c4e02"), "1 2|total 1|".into()),
     ] {
         assert_eq!(answer_to(&case, plain), Some(right), "{case}");
     }

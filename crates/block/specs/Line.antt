@@ -1,16 +1,15 @@
 -- The line: a plan, its stations, its sections and their signals.
 use Rattle.std.specs.Prelude.{ℕ, zero, suc, ◌+◌, ◌-◌, Bool, true, false, not, eqb, leb, ltb}
 use Rattle.words.specs.Words.{◌and◌, ◌or◌, if◌then◌else◌}
-use Rattle.sections.specs.Sections.{most_sections}
 use Rattle.block.specs.declared.line.Plan.{Plan}
 use Rattle.block.specs.declared.line.Name.{Name}
 use Rattle.block.specs.declared.line.Name.TheVariants.{StationA, StationB}
 use Rattle.block.specs.declared.line.Direction.{Direction}
 use Rattle.block.specs.declared.line.Direction.TheVariants.{TowardsA, TowardsB}
 
--- "A plan has n sections, 2 to 16, numbered from A, and a frontier b, 1 to n-1." 02, Req 06: "New trunk plans need n up to 48."
+-- "A plan has n sections, 2 to 16, numbered from A, and a frontier b, 1 to n-1."
 abbrev pub is_plan : Plan → Bool
-is_plan p = leb 2 p.sections and leb p.sections most_sections and leb 1 p.frontier and ltb p.frontier p.sections
+is_plan p = leb 2 p.sections and leb p.sections 16 and leb 1 p.frontier and ltb p.frontier p.sections
 
 -- "0 is accepted. 1 plan"
 abbrev pub plan_judged : Plan → ℕ

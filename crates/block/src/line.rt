@@ -6,7 +6,7 @@ ghost use Rattle.block.specs.Line.{is_plan, plan_judged, is_section, some_sectio
 ghost use Rattle.block.specs.Areas.{AreaOf};
 
 use super::refused::{ACCEPTED, NO_PLAN};
-use sections::{MOST_SECTIONS, both, minus, sections_to};
+use sections::{both, minus, sections_to};
 
 // Its last field says the edition: the rules of 2012, or those of 2024 (02, Req 05).
 #[derive(Drop)]
@@ -33,7 +33,7 @@ impl Plan {
         ensures { result ≡ is_plan self }
     {
         (2 <= self.sections)
-            & (self.sections <= MOST_SECTIONS)
+            & (self.sections <= 16)
             & (1 <= self.frontier)
             & (self.frontier < self.sections)
     }

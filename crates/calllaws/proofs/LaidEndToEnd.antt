@@ -25,7 +25,7 @@ use Rattle.records.proofs.QuestionLaws.{written_is_read, one_form}
 use Rattle.records.proofs.Lies.{fits}
 use Rattle.paper.specs.Question.{Question, question_of}
 use Rattle.paper.specs.Read.{answered, read_of}
-use Rattle.paper.specs.Given.{Given, given_on, given_by, given}
+use Rattle.paper.specs.Given.{Given, given_by, given}
 use Rattle.paper.proofs.Accepted as Accepted
 use Rattle.paper.proofs.ReadBytes.{AcceptedBytes, form_is_answered, accepted_bytes, read_question}
 use Rattle.folvkin.specs.Block.{plan_refusal, situation_refusal}
@@ -49,10 +49,10 @@ module _ (bytes : List ℕ) (a : AcceptedBytes bytes) where
   plan_read : whole plan (plan.written v.0) ≡ accepted v.0
   plan_read = Whole.written_is_read plan_law.lawful v.0 (every_plan v.0)
 
-  situation_read : whole (situation v.0) ((situation v.0).written v.1.0) ≡ accepted v.1.0
-  situation_read = Whole.written_is_read (situation_law v.0).lawful v.1.0 (fits bytes v a.form).situation
+  situation_read : whole situation (situation.written v.1.0) ≡ accepted v.1.0
+  situation_read = Whole.written_is_read situation_law.lawful v.1.0 (fits bytes v a.form).situation
 
-  both_given : given (plan.written v.0) ((situation v.0).written v.1.0) ≡ accepted (record { plan = v.0; situation = situation_of v.1.0 })
+  both_given : given (plan.written v.0) (situation.written v.1.0) ≡ accepted (record { plan = v.0; situation = situation_of v.1.0 })
   unfolding given
   both_given = rw (plan_read, situation_read)
 
@@ -63,7 +63,7 @@ module _ (bytes : List ℕ) (a : AcceptedBytes bytes) where
   unfolding question
   parts_of_accepted = record {
     plan_records = plan.written v.0;
-    situation_records = (situation v.0).written v.1.0;
+    situation_records = situation.written v.1.0;
     rest = events.written v.1.1.0 ++ (readings.written v.1.1.1.0 ++ answer_length.written v.1.1.1.1);
     joined = sym (one_form bytes v a.form).1;
     plan_accepted = rw (plan_read, holds_is (is_plan v.0) right.plan);
@@ -82,7 +82,7 @@ Said (accepted g) = Unit
 pub record Alone (plan_bytes situation_bytes : List ℕ) (g : Given) : Type 0 where
   pub plan_alone : whole plan plan_bytes ≡ accepted g.plan
   pub codes : Codes
-  pub situation_alone : whole (situation g.plan) situation_bytes ≡ accepted codes
+  pub situation_alone : whole situation situation_bytes ≡ accepted codes
   pub saying : situation_of codes ≡ g.situation
 
 plan_in : Given → Whole Given → Plan
@@ -95,22 +95,13 @@ situation_in d (accepted g) = g.situation
 
 pub alone : (plan_bytes situation_bytes : List ℕ) (g : Given) → given plan_bytes situation_bytes ≡ accepted g → Alone plan_bytes situation_bytes g
 unfolding given Said plan_in situation_in
-alone plan_bytes situation_bytes g h = by (whole plan plan_bytes) refl h
+alone plan_bytes situation_bytes g h = by (whole plan plan_bytes) refl (whole situation situation_bytes) refl h
   where
-    on : (p : Plan) → whole plan plan_bytes ≡ accepted p → (c : Whole Codes) → whole (situation p) situation_bytes ≡ c → given_on p c ≡ accepted g → Alone plan_bytes situation_bytes g
-    on p e no_form f k = absurd (subst Said (sym k) tt)
-    on p e (accepted c) f k =
-        let same : p ≡ g.plan = ap (plan_in g) k in
-        record {
-          plan_alone = e ∙ ap accepted same;
-          codes = c;
-          situation_alone = ap (λ (o : Plan). whole (situation o) situation_bytes) (sym same) ∙ f;
-          saying = ap (situation_in g) k;
-        }
-
-    by : (w : Whole Plan) → whole plan plan_bytes ≡ w → given_by w situation_bytes ≡ accepted g → Alone plan_bytes situation_bytes g
-    by no_form e k = absurd (subst Said (sym k) tt)
-    by (accepted p) e k = on p e (whole (situation p) situation_bytes) refl k
+    by : (w : Whole Plan) → whole plan plan_bytes ≡ w → (c : Whole Codes) → whole situation situation_bytes ≡ c → given_by w c ≡ accepted g → Alone plan_bytes situation_bytes g
+    by no_form e c f k = absurd (subst Said (sym k) tt)
+    by (accepted p) e no_form f k = absurd (subst Said (sym k) tt)
+    by (accepted p) e (accepted c) f k =
+        record { plan_alone = e ∙ ap (λ (w : Whole Given). accepted (plan_in g w)) k; codes = c; situation_alone = f; saying = ap (situation_in g) k }
 
 module _ (plan_bytes situation_bytes events_bytes readings_bytes length-bytes : List ℕ) (g : Given) (es : List Event) (rs : List Reading) (n : ℕ)
     (both : given plan_bytes situation_bytes ≡ accepted g) (has-events : whole events events_bytes ≡ accepted es)
@@ -123,7 +114,7 @@ module _ (plan_bytes situation_bytes events_bytes readings_bytes length-bytes : 
   laid_together =
       let a = alone plan_bytes situation_bytes g both in
       let p1 = Whole.one_form plan_law.lawful plan_bytes g.plan a.plan_alone in
-      let p2 = Whole.one_form (situation_law g.plan).lawful situation_bytes a.codes a.situation_alone in
+      let p2 = Whole.one_form situation_law.lawful situation_bytes a.codes a.situation_alone in
       let p3 = Whole.one_form events_law.lawful events_bytes es has-events in
       let p4 = Whole.one_form readings_law.lawful readings_bytes rs has-readings in
       let p5 = Whole.one_form answer_length_law.lawful length-bytes n has-length in

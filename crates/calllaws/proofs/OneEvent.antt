@@ -1,7 +1,7 @@
 -- One call of `folvkin_event`, on records that say a plan and a sound situation: it tells what `applied` gives, and writes the records of the
 -- situation after. Assumes nothing.
 use Prim.Native.Nat.{ℕ, ◌+◌, ◌≤◌}
-use mathlib.Core.Path.{◌≡◌, refl, sym, ap, ◌∙◌}
+use mathlib.Core.Path.{◌≡◌, refl, sym, ap, ap₂, ◌∙◌}
 use mathlib.Core.Bool.{Bool, true, false, not}
 use mathlib.Core.List.{List, [], ◌∷◌, ◌++◌}
 use native.Mathlib.Omega.{arith}
@@ -29,7 +29,7 @@ use Rattle.records.specs.Situation.{codes_of, situation}
 use Rattle.records.proofs.RecordLaws.{situation_law}
 use Rattle.records.proofs.CodesLaws.{codes_say, codes_fit}
 use Rattle.lists.specs.Refusal.{◌unless◌, ◌or_else◌, event_refusal}
-use Rattle.paper.specs.Given.{Given, given_on, given_by, given}
+use Rattle.paper.specs.Given.{Given, given_by, given}
 use Rattle.folvkin.specs.Block.{tried_refusal, record_after, told_with, room_with, event_packed, event_room}
 use Rattle.calllaws.proofs.FieldsReadBack.{event_number}
 use Rattle.calllaws.proofs.LaidEndToEnd.{alone}
@@ -86,12 +86,12 @@ abbrev pub says : Plan → Kept → Whole Given
 says p x = form (record { plan = p; situation = x })
 
 module _ (p : Plan) (planned : T (is_plan p)) (plan_bytes : List ℕ) where
-  given_after : (bytes : List ℕ) (x : Kept) → given plan_bytes bytes ≡ says p x → (y : Kept) → T (sound p y) → given plan_bytes ((situation p).written (codes_of y)) ≡ says p y
+  given_after : (bytes : List ℕ) (x : Kept) → given plan_bytes bytes ≡ says p x → (y : Kept) → T (sound p y) → given plan_bytes (situation.written (codes_of y)) ≡ says p y
   unfolding given
   given_after bytes x g y s =
       let first = (alone plan_bytes bytes (record { plan = p; situation = x }) g).plan_alone in
-      let second = written_is_read (situation_law p).lawful (codes_of y) (codes_fit p y planned s) in
-      ap (λ (w : Whole Plan). given_by w ((situation p).written (codes_of y))) first ∙ ap (given_on p) second ∙ ap (says p) (codes_say p y planned s)
+      let second = written_is_read situation_law.lawful (codes_of y) (codes_fit p y planned s) in
+      ap₂ given_by first second ∙ ap (says p) (codes_say p y planned s)
 
   module _ (bytes : List ℕ) (x : Kept) (g : given plan_bytes bytes ≡ says p x) (s : T (sound p x)) (l : Lent) (h : 96 ≤ length l.room) where
     abbrev e : Event
@@ -132,5 +132,5 @@ module _ (p : Plan) (planned : T (is_plan p)) (plan_bytes : List ℕ) where
       pub goes_on : given plan_bytes (records_left (event_call plan_bytes bytes l)) ≡ says p (applied p x e).next
       goes_on =
           let next = applied_reaches p x e yes in
-          ap (given plan_bytes) (left ∙ ap (λ (y : Kept). (situation p).written (codes_of y)) (sym next))
+          ap (given plan_bytes) (left ∙ ap (λ (y : Kept). situation.written (codes_of y)) (sym next))
           ∙ given_after bytes x g (applied p x e).next (soundness_kept p planned x e s)

@@ -17,10 +17,10 @@ pub record Lent : Type 0 where
 abbrev pub events_lent : List Lent → List Event
 events_lent lent = map (λ (l : Lent). l.event) lent
 
--- rooms that a situation fits into, whatever it is
+-- no situation is ever longer than 96 bytes
 abbrev pub Rooms96 : List Lent → Type 0
 Rooms96 [] = Unit {0}
-Rooms96 (l ∷ lent) = (longest_situation ≤ length l.room) × Rooms96 lent
+Rooms96 (l ∷ lent) = (96 ≤ length l.room) × Rooms96 lent
 
 -- by the contract of `folvkin_event`, whatever the event's bytes are
 abbrev pub bytes_call : List ℕ → List ℕ → List ℕ → List ℕ → Call

@@ -31,7 +31,6 @@ infix 70 with_mark◌counting◌on_sections◌and_route◌is_judged◌
 infix 70 ◌then◌
 infix 70 in_2012◌then◌
 infix 70 ◌then_in_2012_judged◌
-infix 70 on_48_sections◌then◌
 infix 70 ◌metres_at◌exactly◌seconds
 infix 70 ◌metres_at◌within◌typed◌/2^18_gets◌error◌
 infix 70 ◌metres_at◌within_0_no_float_is_right
@@ -41,10 +40,6 @@ plan = record { sections = 4; frontier = 2; rules2012 = false }
 -- the same of 2012 (02, Req 05)
 abbrev pub plan_of_2012 : Plan
 plan_of_2012 = record { sections = 4; frontier = 2; rules2012 = true }
-
--- the longest line, its frontier in the middle (02, Req 06)
-abbrev pub long_plan : Plan
-long_plan = record { sections = 48; frontier = 24; rules2012 = false }
 
 abbrev pub A : ℕ
 A = 0
@@ -130,7 +125,6 @@ pub data Seen : Type 0 where
 pub data Row : Type 0 where
   ◌then◌ : List Tried → List Seen → Row
   in_2012◌then◌ : List Tried → List Seen → Row
-  on_48_sections◌then◌ : List Tried → List Seen → Row
   ◌then_in_2012_judged◌ : List Tried → ℕ → Row
   ◌metres_at◌exactly◌seconds : ℕ → ℕ → ℕ → Row
   with_mark◌counting◌on_sections◌and_route◌is_judged◌ : Bool → ℕ → ℕ → Route → ℕ → Row
@@ -181,7 +175,6 @@ Gets m verdict e = (m.refusal ≡ 0) × (m.line.verdict ≡ verdict) × (m.line.
 unfoldable pub Holds : Row → Type 0
 Holds (es then rs) = T (go plan (λ x. all_seen plan x rs) fresh es)
 Holds (in_2012 es then rs) = T (go plan_of_2012 (λ x. all_seen plan_of_2012 x rs) fresh es)
-Holds (on_48_sections es then rs) = T (go long_plan (λ x. all_seen long_plan x rs) fresh es)
 -- what is accepted in 2024, judged in 2012
 Holds (es then_in_2012_judged refusal) = T (go plan (λ x. eqb (judged plan_of_2012 x) refusal) fresh es)
 Holds (with_mark m counting n on_sections k and_route r is_judged refusal) = judged plan (watched m n k r) ≡ refusal
@@ -271,11 +264,6 @@ table =
     -- "In that edition a situation with such a pair is not sound."
     ∷ ((BSLG at A gives 0 ∷ AFBLI at A gives 0 ∷ []) then_in_2012_judged 2)
     ∷ ((AFBLE at B gives 0 ∷ BILC at B gives 0 ∷ []) then_in_2012_judged 2)
-    -- signals and sections up to 48 and 176 (02, Req 06): example 2 on the longest line, over the frontier too
-    ∷ (on_48_sections (SOBB at A gives 0 ∷ COBB at B gives 0 ∷ exit_route at A gives 0 ∷ []) then (signal 1 shows 2 ∷ signal 24 shows 2 ∷ signal 47 shows 2 ∷ signal 48 shows 1 ∷ signal 176 shows 0 ∷ []))
-    ∷ (on_48_sections (SOBB at A gives 0 ∷ COBB at B gives 0 ∷ occupied at 47 gives 0 ∷ occupied at 48 gives 0 ∷ freed at 47 gives 0 ∷ exit_route at B gives 13 naming 48 ∷ []) then (signal 47 shows 1 ∷ signal 48 shows 0 ∷ line_reads_lem 1 ∷ []))
-    ∷ (on_48_sections (SOBB at B gives 0 ∷ COBB at A gives 0 ∷ exit_route at B gives 0 ∷ occupied at 48 gives 0 ∷ []) then (signal 175 shows 2 ∷ signal 176 shows 0 ∷ line_reads_lem 1 ∷ []))
-    ∷ (on_48_sections (occupied at 49 gives 4 ∷ BSLB at 49 gives 4 ∷ BSLB at 176 gives 4 ∷ BSLB at 177 gives 4 ∷ BSLB at 48 gives 0 ∷ BSLB at 175 gives 0 ∷ freed at 48 gives 5 ∷ []) then [])
     ∷ ((AFBLI at A gives 0 ∷ BSLB at 2 gives 0 ∷ []) then_in_2012_judged 2)
     ∷ ((AFBLI at A gives 0 ∷ BSLB at 130 gives 0 ∷ []) then_in_2012_judged 2)
     ∷ ((AFBLI at A gives 0 ∷ BILC at B gives 0 ∷ BSLG at B gives 0 ∷ BSLB at 3 gives 0 ∷ []) then_in_2012_judged 0)

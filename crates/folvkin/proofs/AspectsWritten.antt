@@ -19,7 +19,6 @@ use Rattle.block.specs.declared.line.Plan.{Plan}
 use Rattle.block.specs.declared.line.Direction.{Direction}
 use Rattle.block.specs.declared.line.Direction.TheVariants.{TowardsA, TowardsB}
 use Rattle.rulebook.specs.Situation.{Kept}
-use Rattle.forms.proofs.Copied.{one_more}
 use Rattle.records.proofs.InBytes.{part_from}
 use Rattle.aspects.specs.Aspects.{code, shows, is_open, aspect}
 use Rattle.signals.specs.SignalSets.{Those, is_green, shown}
@@ -49,7 +48,12 @@ module _ (l : Lights) where
   pub one_written : (room : List ℕ) (i : ℕ) → i < length room → set (written room i) i (shown l (i + 1)) ≡ written room (i + 1)
   unfolding first_shown
   one_written room i h =
-      one_more (first_shown l i) room (shown l (i + 1)) i (shown_length i) h ∙ ap (written room) (sym (add-one i))
+      let v : ℕ = shown l (i + 1) in
+      let a : List ℕ = first_shown l i in
+      ap (λ m. set (a ++ m) i v) (drop-cons room i 0 h)
+      ∙ set_at a (get_or room i 0) (drop (suc i) room) v i (shown_length i)
+      ∙ sym (append_assoc a (v ∷ []) (drop (suc i) room))
+      ∙ ap (written room) (sym (add-one i))
 
 -- ---- sets that move down
 abbrev pub lights : ℕ → ℕ → Lights

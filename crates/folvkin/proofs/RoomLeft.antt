@@ -37,7 +37,7 @@ module _ (p : Plan) (x : Kept) (e : Event) (room : ℕ) (ok : tried_refusal p x 
   pub room_enough : 96 ≤ room
   room_enough = leb-true longest_situation room passed.enough
 
-  pub record_fits : (situation p).writes (codes_of (reached p x e)) ≡ true
+  pub record_fits : situation.writes (codes_of (reached p x e)) ≡ true
   record_fits =
       let right = event_right p e passed.right in
       let plan = judged_plan p x passed.sound in

@@ -39,7 +39,7 @@ situation_refusal plan_bytes situation_bytes = situation_told (given plan_bytes 
 abbrev pub event_in : List ℕ → Event
 event_in bytes = event (get_or bytes 0 0) (get_or bytes 1 0)
 
--- the room that an event asks for: no situation of any request is longer (SK has 35 bytes)
+-- no situation is ever longer
 abbrev pub longest_situation : ℕ
 longest_situation = 96
 
@@ -53,7 +53,7 @@ event_told (accepted g) e room = 20 unless eqb (length e) 2 or_else tried_refusa
 
 -- the situation after, as records
 abbrev pub record_after : Plan → Kept → Event → List ℕ
-record_after p x e = (situation p).written (codes_of (reached p x e))
+record_after p x e = situation.written (codes_of (reached p x e))
 
 abbrev pub records_after : Whole Given → List ℕ → List ℕ
 records_after no_form e = []

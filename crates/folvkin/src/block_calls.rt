@@ -22,7 +22,7 @@ use situation::Situation;
 use situations::{put_situation, situation_in};
 use soundness::judged;
 
-// The room that an event asks for: no situation of any request is longer (SK has 35 bytes).
+// No situation is ever longer.
 const LONGEST_SITUATION: usize = 96;
 
 #[unsafe(no_mangle)]
@@ -39,7 +39,6 @@ pub extern "C" fn folvkin_plan(plan: &[u8]) -> u8
     plan_judged(plan_in(plan))
 }
 
-// Whether a situation, in the record that such a plan has (SK above sixteen sections), is sound on it.
 #[unsafe(no_mangle)]
 pub extern "C" fn folvkin_situation(plan: &[u8], situation: &[u8]) -> u8
     ensures { result ≡ situation_refusal plan.now situation.now }
@@ -47,8 +46,7 @@ pub extern "C" fn folvkin_situation(plan: &[u8], situation: &[u8]) -> u8
     if !both_given(plan, situation) {
         return NO_FORM;
     }
-    let plan = plan_in(plan);
-    judged(plan, situation_in(plan, situation))
+    judged(plan_in(plan), situation_in(situation))
 }
 
 // Refusals 1, 2, 3, 4, 24, then the event's own.
@@ -79,13 +77,12 @@ fn event_written(plan: Plan, x: Situation, event: Event, room: &mut [u8]) -> u64
         let name = name_of(plan, x, event, refusal);
         return refusal as u64 + 256 * (name as u64);
     }
-    let length = put_situation(plan, next(plan, x, event), room);
+    let length = put_situation(next(plan, x, event), room);
     65536 * (length as u64)
 }
 
 // Refusal + 2^8 name + 2^16 length; 13 names the lowest occupied section (0 where a count runs alone), 9 the station that holds the exit route
-// (0 A, 1 B). An accepted event writes the situation after it as its record on that plan; later bytes keep their values, and a refused one changes no
-// byte. A room under 96 bytes is refused with 24.
+// (0 A, 1 B). An accepted event writes the situation after it, as records; later bytes keep their values, and a refused one changes no byte.
 #[unsafe(no_mangle)]
 pub extern "C" fn folvkin_event(plan: &[u8], situation: &[u8], event: &[u8], room: &mut [u8]) -> u64
     ensures value { result ≡ event_packed (given plan.now situation.now) event.now room.old }
@@ -102,7 +99,7 @@ pub extern "C" fn folvkin_event(plan: &[u8], situation: &[u8], event: &[u8], roo
         argument: event[1],
     };
     let plan = plan_in(plan);
-    event_written(plan, situation_in(plan, situation), event, room)
+    event_written(plan, situation_in(situation), event, room)
 }
 
 // Refusal + 2^8 value. A reading is kind and argument.
@@ -116,10 +113,9 @@ pub extern "C" fn folvkin_reading(plan: &[u8], situation: &[u8], kind_and_argume
     if kind_and_argument.len() != 2 {
         return NO_FORM as u32;
     }
-    let plan = plan_in(plan);
     let told = reading(
-        plan,
-        situation_in(plan, situation),
+        plan_in(plan),
+        situation_in(situation),
         kind_and_argument[0],
         kind_and_argument[1],
     );
@@ -167,7 +163,7 @@ pub extern "C" fn folvkin_aspects(plan: &[u8], situation: &[u8], room: &mut [u8]
         return NO_FORM;
     }
     let plan = plan_in(plan);
-    let x = situation_in(plan, situation);
+    let x = situation_in(situation);
     let refusal = judged(plan, x);
     if refusal != ACCEPTED {
         return refusal;

@@ -47,14 +47,6 @@ choice_bounded {n = n} {F = F} {G = G} l Y Z = record { bounded = λ a h. by a (
     by a true e h = omega (arith, l, Y.bounded a e)
     by a false e h = Z.bounded a h
 
--- a test that is known before
-pub if_bounded : {A : Type 0} {n : ℕ} {F G : Form A} (v : Bool) → Bounded n F → Bounded n G → Bounded n (if v then F else G)
-if_bounded true Y Z = Y
-if_bounded false Y Z = Z
-
-pub no_more : {A : Type 0} {m n : ℕ} {F : Form A} → m ≤ n → Bounded m F → Bounded n F
-no_more l Z = record { bounded = λ a h. omega (arith, l, Z.bounded a h) }
-
 module _ {A : Type 0} {n : ℕ} {F : Form A} (Z : Bounded n F) where
   each_bounded : (items : List A) → all F.writes items ≡ true → length (each_written F items) ≤ length items * n
   each_bounded [] h = omega arith

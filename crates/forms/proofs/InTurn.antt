@@ -9,7 +9,7 @@ use lib.Seq.{drop_at, drop-drop}
 use Rattle.words.specs.Words.{◌or◌}
 use Rattle.forms.specs.declared.Letters.{Letters}
 use Rattle.forms.specs.Form.{Found, nothing, found, Form, after}
-use Rattle.forms.specs.Compose.{◌▸◌, stands}
+use Rattle.forms.specs.Compose.{◌⊗◌, stands}
 use Rattle.forms.specs.Laws.{Lawful, Lettered, begins}
 use Rattle.forms.specs.Taken.{used_of, taken}
 use Rattle.forms.proofs.Reading.{never}
@@ -90,14 +90,13 @@ module _ {Q : Type 0} (W : Form Q) (s : List ℕ) where
   pub at_start : Reached 0 W (λ v. v)
   at_start = record { goes = sym (same_after (W.read s)) }
 
-  -- what is left may depend on the value before it
-  module _ {A B : Type 0} (F : Form A) (G : A → Form B) {n : ℕ} {make : A × B → Q} (r : Reached n (F ▸ G) make) where
-    pub goes_on : {k : ℕ} (t : There F k (drop n s)) → Reached (n + k) (G t.what) (λ b. make (t.what, b))
-    goes_on {k} t = record { goes = r.goes ∙ rw (t.is, ← drop-drop k n s) (made_after make t.what ((G t.what).read (drop k (drop n s)))) }
+  module _ {A B : Type 0} (F : Form A) (G : Form B) {n : ℕ} {make : A × B → Q} (r : Reached n (F ⊗ G) make) where
+    pub goes_on : {k : ℕ} (t : There F k (drop n s)) → Reached (n + k) G (λ b. make (t.what, b))
+    goes_on {k} t = record { goes = r.goes ∙ rw (t.is, ← drop-drop k n s) (made_after make t.what (G.read (drop k (drop n s)))) }
 
     -- the first one, at the front
-    pub sets_out : n ≡ 0 → {k : ℕ} (t : There F k s) → Reached k (G t.what) (λ b. make (t.what, b))
-    sets_out z {k} t = record { goes = r.goes ∙ rw (z, t.is) (made_after make t.what ((G t.what).read (drop k s))) }
+    pub sets_out : n ≡ 0 → {k : ℕ} (t : There F k s) → Reached k G (λ b. make (t.what, b))
+    sets_out z {k} t = record { goes = r.goes ∙ rw (z, t.is) (made_after make t.what (G.read (drop k s))) }
 
     pub lost : F.read (drop n s) ≡ nothing → W.read s ≡ nothing
     lost e = r.goes ∙ rw e

@@ -125,7 +125,7 @@ module _ {A : Type 0} {n : ℕ} {F : Form A} (L : Lawful F) where
   pub times_takes : (k : ℕ) → Takes n F → Takes (k * n) (times k F)
   times_takes k Y = record { sized = times_size k Y.sized; reads = each_reads Y k }
 
-pub field_size : (w m : ℕ) → length (field_written w m) ≡ w
+field_size : (w m : ℕ) → length (field_written w m) ≡ w
 field_size zero m = refl
 field_size (suc w) m = omega (arith, field_size w (m / 256))
 

@@ -5,10 +5,10 @@ ghost use Rattle.printing.specs.Printed.{printed, Enough};
 use libc::{STDIN_FILENO, STDOUT_FILENO};
 use printing::{ROOM, next_piece, start};
 
-// A question has at most 91 bytes: of a longer input one byte more is enough to refuse it.
-const INPUT: usize = 92;
+// A question has at most 79 bytes: of a longer input one byte more is enough to refuse it.
+const INPUT: usize = 80;
 
-// Reads standard input into room for as many bytes as its text depends on: whatever bytes follow, the text is the same. What is read is libc's.
+// Reads as much of standard input as its text depends on: whatever bytes follow, the text is the same.
 fn read_input(input: &mut [u8; INPUT]) -> usize
     ensures enough { Enough (length input.old) }
     ensures within { result ≤ length input.new }

@@ -80,7 +80,7 @@ fn word_of(code: u8) -> usize
     wide(code % 4)
 }
 
-// The bit of an event in that word: few events of a question share one (on a long line the signals or sections k and k + 32 do).
+// The bit of an event in that word: few events of a question share one.
 fn bit_of(code: u8, arg: u8) -> u8
     ensures { (result ≡ (2 * (code / 4) + arg) % 32) × (result < 32) }
 {

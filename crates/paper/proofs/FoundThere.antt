@@ -15,7 +15,7 @@ use Rattle.forms.specs.Whole.{Whole, refused as no_form, accepted, whole}
 use Rattle.records.specs.Situation.{situation_of}
 use Rattle.records.specs.Question.{Parts, question}
 use Rattle.records.specs.Laid.{si_at, ev_at, rd_at, ln_at, laid_in}
-use Rattle.records.specs.InBytes.{part, plan_at, codes_at, field_width, events_in, readings_in}
+use Rattle.records.specs.InBytes.{part, plan_at, codes_at, events_in, readings_in}
 use Rattle.records.specs.declared.question.Laid.{Laid}
 use Rattle.records.proofs.PlanForms.{plan_size_between}
 use Rattle.records.proofs.SituationForms.{size_between}
@@ -91,7 +91,6 @@ module _ (s : List ℕ) (at : Laid) (i : Is s at) where
   pub record Within : Type 0 where
     pub plan : 4 ≤ length s
     pub situation : at.si + 21 ≤ at.ev
-    pub fields : at.si + (15 + 3 * field_width i.parts.0) ≤ at.ev
     pub events : at.ev + 3 ≤ at.rd
     pub readings : at.rd + 3 ≤ at.ln
     pub length : at.ln + 3 ≡ length s
@@ -103,8 +102,7 @@ module _ (s : List ℕ) (at : Laid) (i : Is s at) where
       let l = long s v i.whole in
       record {
         plan = omega (arith, l.end, (plan_size_between v.0).0);
-        situation = omega (arith, si_is, ev_is, l.si, l.ev, (size_between v.0 v.1.0).0);
-        fields = omega (arith, si_is, ev_is, l.si, l.ev);
+        situation = omega (arith, si_is, ev_is, l.si, l.ev, (size_between v.1.0).0);
         events = omega (arith, ev_is, rd_is, l.ev, l.rd);
         readings = omega (arith, rd_is, ln_is, l.rd, l.ln);
         length = omega (arith, ln_is, l.ln, l.end);
@@ -112,20 +110,18 @@ module _ (s : List ℕ) (at : Laid) (i : Is s at) where
         readings_end = omega (arith, rd_is, ln_is, l.rd, l.ln);
       }
 
-  pub situation_long : {p : Plan} → p ≡ plan_at s → 15 + 3 * field_width p ≤ length (part at.si at.ev s)
-  situation_long e =
+  pub situation_long : 21 ≤ length (part at.si at.ev s)
+  situation_long =
       let w = within in
       let n : at.ev - at.si ≤ length (drop at.si s) = omega (arith, length-drop at.si s, w.situation, w.events, w.readings, w.length) in
-      rw (e ∙ plan_lies s v i.whole) (omega (arith, w.fields, length-take-le (at.ev - at.si) (drop at.si s) n))
+      omega (arith, w.situation, length-take-le (at.ev - at.si) (drop at.si s) n)
 
   -- ---- what is decoded
   pub plan_is : {p : Plan} → p ≡ plan_at s → p ≡ q.plan
   plan_is e = e ∙ plan_lies s v i.whole
 
-  pub situation_is : {p : Plan} {x : Kept} → p ≡ plan_at s → x ≡ situation_of (codes_at (field_width p) (part at.si at.ev s)) → x ≡ q.situation
-  situation_is h e =
-      e ∙ ap (λ (o : Plan). situation_of (codes_at (field_width o) (part at.si at.ev s))) (plan_is h)
-      ∙ ap₂ (λ (a b : ℕ). situation_of (codes_at (field_width v.0) (part a b s))) si_is ev_is ∙ ap situation_of (situation_lies s v i.whole)
+  pub situation_is : {x : Kept} → x ≡ situation_of (codes_at (part at.si at.ev s)) → x ≡ q.situation
+  situation_is e = e ∙ ap₂ (λ (a b : ℕ). situation_of (codes_at (part a b s))) si_is ev_is ∙ ap situation_of (situation_lies s v i.whole)
 
   pub events_are : events_in (part (at.ev + 3) at.rd s) ≡ q.events
   events_are = ap₂ (λ (a b : ℕ). events_in (part (a + 3) b s)) ev_is rd_is ∙ events_found s v i.whole
@@ -147,9 +143,9 @@ module _ (s : List ℕ) (at : Laid) (i : Is s at) where
   unfolding read_of
   read_is = rw i.whole
 
-  module _ {p : Plan} {x : Kept} (pe : p ≡ plan_at s) (xe : x ≡ situation_of (codes_at (field_width p) (part at.si at.ev s))) where
+  module _ {p : Plan} {x : Kept} (pe : p ≡ plan_at s) (xe : x ≡ situation_of (codes_at (part at.si at.ev s))) where
     pub judged_is : {r : ℕ} → r ≡ judged p x → r ≡ judged q.plan q.situation
-    judged_is e = e ∙ ap₂ judged (plan_is pe) (situation_is pe xe)
+    judged_is e = e ∙ ap₂ judged (plan_is pe) (situation_is xe)
 
     pub by_judged : {r : ℕ} → r ≡ judged p x → (r ≡ 0 → ⊥) → refused r ≡ read_of s
     by_judged e z = sym (read_is ∙ not_judged_right q counts (judged_is e) z)
@@ -172,7 +168,7 @@ module _ (s : List ℕ) (at : Laid) (i : Is s at) where
         readings_long = ap (λ (o : Read). size o.question.readings) read_whole
 
         all_found : ◌≡◌ {A = Read} (record { refusal = 0; question = record { plan = p; situation = x; events = events_in (part (at.ev + 3) at.rd s); readings = readings_in (part (at.rd + 3) at.ln s); length = get_or s (at.ln + 2) 0 } }) (read_of s)
-        all_found = same_question (plan_is pe) (situation_is pe xe) events_are readings_are length_is ∙ sym read_whole
+        all_found = same_question (plan_is pe) (situation_is xe) events_are readings_are length_is ∙ sym read_whole
 
         pub all_lie :
             (◌≡◌ {A = Read} (record { refusal = 0; question = record { plan = p; situation = x; events = events_in (part (at.ev + 3) at.rd s); readings = readings_in (part (at.rd + 3) at.ln s); length = get_or s (at.ln + 2) 0 } }) (read_of s))

@@ -1,18 +1,17 @@
--- A question has at most 91 bytes, as many as the longest forms of its five records have; whatever is longer has "bytes .. left over": 20.
+-- A question has at most 79 bytes, as many as its five records have one after the other; whatever is longer has "bytes .. left over": 20.
 -- Assumes nothing.
 use Prim.Native.Nat.{ℕ, ◌+◌, ◌≤◌, ◌<◌}
 use mathlib.Core.Path.{◌≡◌}
 use mathlib.Core.List.{List}
 use native.Mathlib.Omega.{arith}
 use lib.ListN.{length}
-use Rattle.block.specs.declared.line.Plan.{Plan}
 use Rattle.forms.specs.Form.{Form}
 use Rattle.forms.specs.Compose.{byte, ◌⊗◌}
 use Rattle.forms.proofs.Simple.{byte_law, left_out_law}
 use Rattle.forms.proofs.Sizes.{byte_takes, left_out_takes}
-use Rattle.forms.proofs.Bounded.{Bounded, size_bounded, sequence_bounded, letters_bounded, counted_bounded, named_bounded, choice_bounded, if_bounded, no_more, accepted_bounded, longer_is_refused}
-use Rattle.records.specs.Plan.{LB, LC, plan, is_long}
-use Rattle.records.specs.Situation.{SI, SJ, SK, on_a_short_plan, on_a_long_plan, situation}
+use Rattle.forms.proofs.Bounded.{Bounded, size_bounded, sequence_bounded, letters_bounded, counted_bounded, named_bounded, choice_bounded, accepted_bounded, longer_is_refused}
+use Rattle.records.specs.Plan.{LB, LC, plan}
+use Rattle.records.specs.Situation.{SI, SJ, situation}
 use Rattle.records.specs.Lists.{EV, RD, LN, event_of, event_parts, events, reading_of, reading_parts, readings, answer_length}
 use Rattle.records.specs.Question.{question}
 use Rattle.records.proofs.Records.{LB_takes, LC_size, codes_takes}
@@ -31,20 +30,12 @@ plan_bounded : Bounded 5 plan
 unfolding plan
 plan_bounded = choice_bounded (omega arith) (letters_bounded LB (size_bounded LB_takes.sized)) (letters_bounded LC (size_bounded LC_size))
 
-short_plan_bounded : Bounded 23 on_a_short_plan
-unfolding on_a_short_plan
-short_plan_bounded =
-    choice_bounded (omega arith)
-    (letters_bounded SI (size_bounded (codes_takes 2 (left_out_law 0) (left_out_takes 0)).sized))
-    (letters_bounded SJ (size_bounded (codes_takes 2 byte_law byte_takes).sized))
-
-long_plan_bounded : Bounded 35 on_a_long_plan
-unfolding on_a_long_plan
-long_plan_bounded = letters_bounded SK (size_bounded (codes_takes 6 byte_law byte_takes).sized)
-
-situation_bounded : (p : Plan) → Bounded 35 (situation p)
+situation_bounded : Bounded 23 situation
 unfolding situation
-situation_bounded p = if_bounded (is_long p) long_plan_bounded (no_more (omega arith) short_plan_bounded)
+situation_bounded =
+    choice_bounded (omega arith)
+    (letters_bounded SI (size_bounded (codes_takes (left_out_law 0) (left_out_takes 0)).sized))
+    (letters_bounded SJ (size_bounded (codes_takes byte_law byte_takes).sized))
 
 events_bounded : Bounded 27 events
 unfolding events
@@ -58,16 +49,12 @@ length_bounded : Bounded 3 answer_length
 unfolding answer_length
 length_bounded = letters_bounded LN a_byte
 
--- as many bytes as the longest forms of its five records have
-abbrev pub longest_question : ℕ
-longest_question = 5 + (35 + (27 + (21 + 3)))
-
-question_bounded : Bounded longest_question question
+pub question_bounded : Bounded 79 question
 unfolding question
-question_bounded = sequence_bounded plan_bounded (λ p. situation_bounded p & events_bounded & readings_bounded & length_bounded)
+question_bounded = plan_bounded & situation_bounded & events_bounded & readings_bounded & length_bounded
 
-pub accepted_is_no_longer : (bytes : List ℕ) → (read_of bytes).refusal ≡ 0 → length bytes ≤ longest_question
-accepted_is_no_longer bytes ok = let a = accepted_bytes bytes ok in accepted_bounded question_law.lawful question_bounded bytes a.parts a.form
+pub at_most_79_bytes : (bytes : List ℕ) → (read_of bytes).refusal ≡ 0 → length bytes ≤ 79
+at_most_79_bytes bytes ok = let a = accepted_bytes bytes ok in accepted_bounded question_law.lawful question_bounded bytes a.parts a.form
 
-pub longer_is_20 : (bytes : List ℕ) → longest_question < length bytes → read_of bytes ≡ refused 20
-longer_is_20 bytes h = no_form_is_20 bytes (longer_is_refused question_law.lawful question_bounded bytes h)
+pub longer_than_79_is_refused : (bytes : List ℕ) → 79 < length bytes → read_of bytes ≡ refused 20
+longer_than_79_is_refused bytes h = no_form_is_20 bytes (longer_is_refused question_law.lawful question_bounded bytes h)

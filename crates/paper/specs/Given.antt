@@ -1,5 +1,4 @@
--- A plan and a situation that are given apart, each as the records of a question: exactly as they stand there, so that the situation's record is the
--- one that such a plan has.
+-- A plan and a situation that are given apart, each as the records of a question: exactly as they stand there.
 use Rattle.std.specs.Prelude.{Bool, true, false, List, ℕ}
 use Rattle.forms.specs.Whole.{Whole, refused as no_form, accepted, whole}
 use Rattle.block.specs.declared.line.Plan.{Plan}
@@ -11,16 +10,13 @@ pub record Given : Type 0 where
   pub plan : Plan
   pub situation : Kept
 
-abbrev pub given_on : Plan → Whole Codes → Whole Given
-given_on p no_form = no_form
-given_on p (accepted c) = accepted (record { plan = p; situation = situation_of c })
-
-abbrev pub given_by : Whole Plan → List ℕ → Whole Given
-given_by no_form situation_bytes = no_form
-given_by (accepted p) situation_bytes = given_on p (whole (situation p) situation_bytes)
+abbrev pub given_by : Whole Plan → Whole Codes → Whole Given
+given_by no_form c = no_form
+given_by (accepted p) no_form = no_form
+given_by (accepted p) (accepted c) = accepted (record { plan = p; situation = situation_of c })
 
 unfoldable pub given : List ℕ → List ℕ → Whole Given
-given plan_bytes situation_bytes = given_by (whole plan plan_bytes) situation_bytes
+given plan_bytes situation_bytes = given_by (whole plan plan_bytes) (whole situation situation_bytes)
 
 abbrev pub there : Whole Given → Bool
 there no_form = false

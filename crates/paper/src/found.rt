@@ -65,7 +65,7 @@ pub fn find(bytes: &[u8]) -> Found
     let ev = at.ev;
     let rd = at.rd;
     let ln = at.ln;
-    let situation = situation_in(plan, &bytes[si..ev]);
+    let situation = situation_in(&bytes[si..ev]);
     let refusal = judged(plan, situation);
     if refusal != ACCEPTED {
         return none(refusal);

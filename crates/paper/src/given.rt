@@ -2,10 +2,10 @@
 ghost use Rattle.std.specs.Prelude.{◌≡◌};
 ghost use Rattle.paper.specs.Given.{given, there};
 
-use records::plan::{plan_in, take_plan};
+use records::plan::take_plan;
 use records::situation::take_situation;
 
-// Whether both are exactly such records, the situation's the one that such a plan has.
+// Whether both are exactly such records.
 pub fn both_given(plan: &[u8], situation: &[u8]) -> bool
     ensures { result ≡ there (given plan.now situation.now) }
 {
@@ -16,8 +16,7 @@ pub fn both_given(plan: &[u8], situation: &[u8]) -> bool
     if used < plan.len() {
         return false;
     }
-    let p = plan_in(plan);
-    let used = take_situation(situation, p);
+    let used = take_situation(situation);
     if used == 0 {
         return false;
     }

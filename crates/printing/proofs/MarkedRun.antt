@@ -7,7 +7,7 @@ use Rattle.paper.specs.Refusal.{counts_in_range, refusal_of}
 use Rattle.paper.specs.Question.{written}
 use Rattle.forms.specs.Whole.{whole}
 use Rattle.records.specs.Plan.{plan}
-use Rattle.records.specs.Situation.{on_a_short_plan, situation, codes_of, in_range, said, situation_of}
+use Rattle.records.specs.Situation.{situation, codes_of, in_range, said, situation_of}
 use Rattle.records.specs.Lists.{events, readings, answer_length, event_at}
 use Rattle.records.specs.Question.{question}
 use Rattle.lists.specs.Refusal.{event_refusal, events_refusal, listed, listed_twice, readings_in_range, lists_refusal}
@@ -32,9 +32,9 @@ text =
     ∷ 52 ∷ 32 ∷ 50 ∷ 32 ∷ 51 ∷ 10 ∷ 52 ∷ 32 ∷ 49 ∷ 32 ∷ 50 ∷ 32 ∷ 51 ∷ 10 ∷ 116 ∷ 111 ∷ 116 ∷ 97 ∷ 108 ∷ 32 ∷ 53 ∷ 10 ∷ []
 
 pub accepted : (read_of paper).refusal ≡ 0
-unfolding paper read_of whole question plan situation on_a_short_plan events readings answer_length answered refusal_of counts_in_range situation_of in_range said lists_refusal events_refusal event_refusal listed listed_twice readings_in_range
+unfolding paper read_of whole question plan situation events readings answer_length answered refusal_of counts_in_range situation_of in_range said lists_refusal events_refusal event_refusal listed listed_twice readings_in_range
 accepted = refl
 
 pub marked_run : printed paper ≡ text
-unfolding paper text printed read_of whole question plan situation on_a_short_plan events readings answer_length answered refusal_of counts_in_range situation_of in_range said lists_refusal events_refusal event_refusal listed listed_twice readings_in_range event_at refusal_at led_at acted stepped shows value_read all_hold empty_if through in_turn answers spaced line lines labelled digits_in decimal flatten
+unfolding paper text printed read_of whole question plan situation events readings answer_length answered refusal_of counts_in_range situation_of in_range said lists_refusal events_refusal event_refusal listed listed_twice readings_in_range event_at refusal_at led_at acted stepped shows value_read all_hold empty_if through in_turn answers spaced line lines labelled digits_in decimal flatten
 marked_run = refl

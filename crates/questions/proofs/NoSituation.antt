@@ -5,11 +5,12 @@ use mathlib.Core.Path.{◌≡◌, refl, ◌∙◌}
 use mathlib.Core.Bool.{Bool, true, false}
 use mathlib.Core.List.{List}
 use native.Mathlib.Omega.{arith}
-use lib.Dec.{T, eqb}
+use borrow.Author.Tests.{ltb-true}
+use lib.Dec.{T, eqb, leb, ltb}
+use Rattle.words.specs.Words.{◌and◌}
 use Rattle.sections.specs.Sections.{◌belongs_to◌}
-use Rattle.words.proofs.Tests.{holds_is, is_holds}
+use Rattle.words.proofs.Tests.{and_at, holds_is, is_holds}
 use Rattle.block.specs.Line.{is_plan}
-use Rattle.block.proofs.PlanLaws.{sized}
 use Rattle.rulebook.specs.Sound.{sound}
 use Rattle.rulebook.specs.Judged.{judged}
 use Rattle.block.specs.declared.line.Plan.{Plan}
@@ -35,7 +36,9 @@ named_belongs field zero l h = absurd (omega arith)
 named_belongs field (suc j) l h = let e : suc j - 1 ≡ j = omega arith in rw (NoSituation.bit_names_section field j, ← e) h
 
 some_sections : (p : Plan) → T (is_plan p) → 1 ≤ p.sections
-some_sections p h = omega (arith, (sized p (holds_is (is_plan p) h)).two)
+some_sections p h =
+    let a = and_at (leb 2 p.sections and leb p.sections 16 and leb 1 p.frontier) (ltb p.frontier p.sections) h in
+    omega (arith, ltb-true p.frontier p.sections (holds_is _ a.1))
 
 is_said : (c : Codes) → in_range c ≡ true → situation_of c ≡ said c
 unfolding situation_of

@@ -76,13 +76,13 @@ fn put_length(n: u8, room: &mut [u8]) -> usize
 }
 
 fn put_question(q: Question, room: &mut [u8]) -> usize
-    requires count_bound { (q.events.count ≤ 12) × (q.readings.count ≤ 6) × ((situation q.plan).writes (codes_of (unpacked q.situation)) ≡ true) }
-    requires count_in_bounds { 9 + plan_size q.plan + situation_size q.plan (codes_of (unpacked q.situation)) + 2 * q.events.count + 3 * q.readings.count ≤ length room.old }
+    requires count_bound { (q.events.count ≤ 12) × (q.readings.count ≤ 6) × (situation.writes (codes_of (unpacked q.situation)) ≡ true) }
+    requires count_in_bounds { 9 + plan_size q.plan + situation_size (codes_of (unpacked q.situation)) + 2 * q.events.count + 3 * q.readings.count ≤ length room.old }
     ensures value { result ≡ length (written (asked q)) }
     ensures room_after { room.new ≡ laid (written (asked q)) room.old }
 {
     let si = put_plan(q.plan, room);
-    let ev = si + put_situation(q.plan, q.situation, &mut room[si..]);
+    let ev = si + put_situation(q.situation, &mut room[si..]);
     let rd = ev + put_items(EV, q.events, EVENT, &mut room[ev..]);
     let ln = rd + put_items(RD, q.readings, READING, &mut room[rd..]);
     ln + put_length(q.length, &mut room[ln..])
@@ -98,7 +98,7 @@ pub fn write_question(q: Question, room: &mut [u8]) -> Written
         return Written { refusal, length: 0 };
     }
     let lists = EVENT * wide(q.events.count) + READING * wide(q.readings.count);
-    let size = HEADS + plan_size(q.plan) + record_size(q.plan, q.situation) + lists;
+    let size = HEADS + plan_size(q.plan) + record_size(q.situation) + lists;
     if room.len() < size {
         return Written {
             refusal: SHORT_ROOM,

@@ -1,27 +1,26 @@
 -- The codes of a sound situation say that situation, and fit their record; codes in range are those of the situation that they say. Assumes
 -- nothing.
-use Prim.Native.Nat.{ℕ}
+use Prim.Native.Nat.{ℕ, ◌<◌}
 use mathlib.Core.Path.{◌≡◌}
-use mathlib.Core.Bool.{Bool, true, false}
-use borrow.Author.Tests.{le-leb}
-use lib.Dec.{T, leb}
-use Rattle.words.specs.Words.{if◌then◌else◌}
+use mathlib.Core.Bool.{true}
+use native.Mathlib.Omega.{arith}
+use borrow.Author.Tests.{le-leb, lt-ltb}
+use lib.Dec.{T, leb, ltb}
 use Rattle.words.proofs.Tests.{or_turned}
 use Rattle.forms.proofs.Reading.{both}
 use Rattle.block.specs.Line.{is_plan}
 use Rattle.rulebook.specs.Sound.{sound}
 use Rattle.block.specs.declared.line.Plan.{Plan}
 use Rattle.rulebook.specs.Situation.{Kept}
-use Rattle.records.specs.Plan.{is_long}
-use Rattle.records.specs.Situation.{Codes, codes_of, in_range, said, situation_of, on_a_short_plan, on_a_long_plan, situation}
-use Rattle.records.specs.InBytes.{field_width, both_zero}
+use Rattle.records.specs.Situation.{Codes, field_of, codes_of, in_range, said, situation_of, situation}
+use Rattle.records.specs.InBytes.{both_zero}
 use Rattle.records.proofs.SoundParts.{Encodable, encodable}
 use Rattle.records.proofs.CodeByCode.{flag_in_range, code_in_range, bits_in_range, flag_back, code_first, code_second, bits_A, bits_B, sections_back, flag_again, code_again, bits_again, field_again}
 
 -- ---- made, then read
-said_back : (w : ℕ) (x : Kept) → Encodable w x → said (codes_of x) ≡ x
+said_back : (x : Kept) → Encodable x → said (codes_of x) ≡ x
 unfolding said codes_of
-said_back w x k =
+said_back x k =
     rw (
       flag_back x.traffic.link,
       flag_back x.traffic.own.entry,
@@ -52,26 +51,24 @@ said_back w x k =
       flag_back x.traffic.track.watch.mark,
     )
 
-made_in_range : (w : ℕ) (x : Kept) → Encodable w x → in_range (codes_of x) ≡ true
+made_in_range : (x : Kept) → Encodable x → in_range (codes_of x) ≡ true
 unfolding codes_of in_range
-made_in_range w x k = simp (flag_in_range, code_in_range, bits_in_range, le-leb x.traffic.track.watch.count 10 k.count)
+made_in_range x k = simp (flag_in_range, code_in_range, bits_in_range, le-leb x.traffic.track.watch.count 10 k.count)
+
+fits : (m : ℕ) → m < 131072 → ltb (field_of m) 65536 ≡ true
+fits m h = lt-ltb (field_of m) 65536 (omega arith)
 
 module _ (p : Plan) (x : Kept) (h : T (is_plan p)) (k : T (sound p x)) where
-  e : Encodable (field_width p) x
-  e = encodable p x h k
-
   pub codes_say : situation_of (codes_of x) ≡ x
   unfolding situation_of
-  codes_say = rw (made_in_range (field_width p) x e) (said_back (field_width p) x e)
+  codes_say = let e = encodable p x h k in rw (made_in_range x e) (said_back x e)
 
-  -- SK can say them all on a long plan, SJ on a short one, and SI those with both zero
-  pub codes_fit : (situation p).writes (codes_of x) ≡ true
-  unfolding situation on_a_short_plan on_a_long_plan codes_of
-  codes_fit = by (is_long p) e
-    where
-      by : (v : Bool) → Encodable (if v then 6 else 2) x → (if v then on_a_long_plan else on_a_short_plan).writes (codes_of x) ≡ true
-      by true e = rw (e.occupied.1, e.heldb.1, e.helda.1)
-      by false e = rw (e.occupied.1, e.heldb.1, e.helda.1) (or_turned (both_zero (codes_of x)) true)
+  -- SJ can say them all, SI those with both zero
+  pub codes_fit : situation.writes (codes_of x) ≡ true
+  unfolding situation codes_of
+  codes_fit =
+      let e = encodable p x h k in
+      rw (fits x.traffic.track.occupied e.occupied.1, fits x.signals.held.towardsb e.heldb.1, fits x.signals.held.towardsa e.helda.1) (or_turned (both_zero (codes_of x)) true)
 
 -- ---- read, then made
 module _ (c : Codes) (r : in_range c ≡ true) where

@@ -1,33 +1,33 @@
 -- Records as the code has them, in bytes: they are what the forms write. Assumes nothing.
 use Prim.Native.Nat.{ℕ, zero, suc, ◌+◌, ◌-◌, ◌*◌, ◌/◌, ◌≤◌, ◌<◌}
 use mathlib.Core.Path.{◌≡◌, refl, sym, ap, ◌∙◌}
-use mathlib.Core.Bool.{Bool, true, false, not}
+use mathlib.Core.Bool.{Bool, true, false}
 use mathlib.Core.List.{List, [], ◌∷◌, ◌++◌, append-nil}
 use native.Mathlib.Omega.{arith}
 use lib.ListN.{length, take, drop, get_or, length-drop}
-use lib.Seq.{take_all, drop_at, drop-drop, get_or-drop}
+use lib.Seq.{take_all}
 use lib.Dec.{eqb}
 use borrow.Author.Tests.{eqb-true}
-use Rattle.words.specs.Words.{◌or◌, if◌then◌else◌}
+use Rattle.words.specs.Words.{if◌then◌else◌}
 use Rattle.rulebook.specs.Apply.{event}
 use Rattle.block.specs.declared.line.Plan.{Plan}
 use Rattle.block.specs.declared.event.Event.{Event}
 use Rattle.block.specs.declared.reading.Reading.{Reading}
 use Rattle.forms.specs.declared.Letters.{Letters}
-use Rattle.forms.specs.Compose.{each_written, section}
+use Rattle.forms.specs.Compose.{each_written, letters, section, named}
+use Rattle.forms.specs.Choices.{left_out}
 use Rattle.forms.specs.Whole.{accepted, whole}
 use Rattle.forms.specs.Taken.{value}
 use Rattle.forms.proofs.Reading.{both}
 use Rattle.forms.proofs.Fields.{section_law}
-use Rattle.forms.proofs.Sizes.{field_size}
 use Rattle.forms.proofs.Whole as Whole
-use Rattle.records.specs.Situation.{Codes, situation}
+use Rattle.records.specs.Situation.{SI, SJ, Codes, codes_made, code_parts, body, without_watch, with_watch, situation}
 use Rattle.records.specs.Lists.{one_event, one_reading, event_at}
-use Rattle.records.specs.InBytes.{events_in, readings_in, codes_at, field_width, both_zero, situation_letters, front_bytes, watch_bytes, plan_at}
-use Rattle.records.specs.Plan.{of_2024, of_2012, plan, is_long}
+use Rattle.records.specs.InBytes.{events_in, readings_in, codes_at, both_zero, plan_at}
+use Rattle.records.specs.Plan.{of_2024, of_2012, plan}
 use Rattle.records.proofs.RecordLaws.{plan_law, situation_law}
 use Rattle.records.proofs.PlanForms.{same_plan, plan_written_as}
-use Rattle.records.proofs.SituationForms.{FieldsFit, record_bytes, its_fields_fit, written_as}
+use Rattle.records.proofs.SituationForms.{FieldsFit, fields_fit, SJ_says, written_as}
 
 pub events_written_in : (items : List Event) → events_in (each_written one_event items) ≡ items
 unfolding events_in
@@ -138,69 +138,32 @@ field_back : (w m : ℕ) (rest : List ℕ) → (section w).writes m ≡ true →
 unfolding value
 field_back w m rest h = rw ((section_law w).back m rest h)
 
-module _ (w : ℕ) (c : Codes) (m : Letters) (after : List ℕ) where
-  abbrev from_helda : List ℕ
-  from_helda = (section w).written c.helda ++ after
+-- the codes where a mark and a count follow, or nothing, which says zero
+codes_before : (m : Letters) (c : Codes) (rest : List ℕ) → FieldsFit c → get_or rest 0 0 ≡ c.mark → get_or rest 1 0 ≡ c.count
+    → codes_at ((letters m (named codes_made code_parts (body (left_out 0)))).written c ++ rest) ≡ c
+unfolding codes_at
+codes_before m c rest f mark count =
+    let ha = (section 2).written c.helda ++ rest in
+    let hb = (section 2).written c.heldb ++ ha in
+    rw (field_back 2 c.occupied hb f.occupied, field_back 2 c.heldb ha f.heldb, field_back 2 c.helda rest f.helda, mark, count)
 
-  abbrev from_heldb : List ℕ
-  from_heldb = (section w).written c.heldb ++ from_helda
+pub codes_written_at : (c : Codes) → situation.writes c ≡ true → codes_at (situation.written c) ≡ c
+codes_written_at c h = ap codes_at (written_as c h) ∙ by (both_zero c) refl
+  where
+    f : FieldsFit c
+    f = fields_fit c (SJ_says c h)
 
-  abbrev all_of_it : List ℕ
-  all_of_it = record_bytes w c m after
+    by : (v : Bool) → both_zero c ≡ v → codes_at (if v then without_watch.written c else with_watch.written c) ≡ c
+    by true e =
+        let z = both (eqb c.mark 0) (eqb c.count 0) e in
+        codes_before SI c [] f (sym (eqb-true c.mark 0 z.0)) (sym (eqb-true c.count 0 z.1))
+    by false e = codes_before SJ c (c.mark ∷ c.count ∷ []) f refl refl
 
-  -- a field's bytes on: n of them are before it, i of them with it
-  next_on : (n i field : ℕ) (rest : List ℕ) → drop n all_of_it ≡ (section w).written field ++ rest → i ≡ n + w → drop i all_of_it ≡ rest
-  next_on n i field rest e h = ap (λ (j : ℕ). drop j all_of_it) h ∙ sym (drop-drop w n all_of_it) ∙ ap (drop w) e ∙ drop_at ((section w).written field) rest w (field_size w field)
-
-  at_heldb : drop (15 + w) all_of_it ≡ from_heldb
-  unfolding front_bytes
-  at_heldb = next_on 15 (15 + w) c.occupied from_heldb refl refl
-
-  at_helda : drop (15 + 2 * w) all_of_it ≡ from_helda
-  at_helda = next_on (15 + w) (15 + 2 * w) c.heldb from_helda at_heldb (omega arith)
-
-  at_watch : drop (15 + 3 * w) all_of_it ≡ after
-  at_watch = next_on (15 + 2 * w) (15 + 3 * w) c.helda after at_helda (omega arith)
-
-  after_fields : (i n : ℕ) → n ≡ 15 + 3 * w + i → get_or all_of_it n 0 ≡ get_or after i 0
-  after_fields i n h = ap (λ (j : ℕ). get_or all_of_it j 0) h ∙ sym (get_or-drop (15 + 3 * w) all_of_it i 0) ∙ ap (λ (t : List ℕ). get_or t i 0) at_watch
-
-  -- a mark and a count are after the fields, or nothing, which says zero
-  codes_in : FieldsFit w c → get_or after 0 0 ≡ c.mark → get_or after 1 0 ≡ c.count → codes_at w all_of_it ≡ c
-  unfolding codes_at front_bytes
-  codes_in f mark count =
-      rw (
-        at_heldb,
-        at_helda,
-        after_fields 0 (15 + 3 * w) (omega arith),
-        after_fields 1 (15 + 3 * w + 1) refl,
-        mark,
-        count,
-        field_back w c.occupied from_heldb f.occupied,
-        field_back w c.heldb from_helda f.heldb,
-        field_back w c.helda after f.helda,
-      )
-
-module _ (p : Plan) (c : Codes) where
-  watch_says : (get_or (watch_bytes p c) 0 0 ≡ c.mark) × (get_or (watch_bytes p c) 1 0 ≡ c.count)
-  unfolding watch_bytes
-  watch_says = by (is_long p) (both_zero c) refl
-    where
-      by : (v z : Bool) → both_zero c ≡ z → (get_or (if v or not z then c.mark ∷ c.count ∷ [] else []) 0 0 ≡ c.mark) × (get_or (if v or not z then c.mark ∷ c.count ∷ [] else []) 1 0 ≡ c.count)
-      by true z e = (refl, refl)
-      by false false e = (refl, refl)
-      by false true e = let z = both (eqb c.mark 0) (eqb c.count 0) e in (sym (eqb-true c.mark 0 z.0), sym (eqb-true c.count 0 z.1))
-
-  pub codes_written_at : (situation p).writes c ≡ true → codes_at (field_width p) ((situation p).written c) ≡ c
-  codes_written_at h =
-      ap (codes_at (field_width p)) (written_as p c h)
-      ∙ codes_in (field_width p) c (situation_letters p c) (watch_bytes p c) (its_fields_fit p c h) watch_says.0 watch_says.1
-
-  -- a record by itself
-  pub codes_alone : (s : List ℕ) → whole (situation p) s ≡ accepted c → codes_at (field_width p) s ≡ c
-  codes_alone s h =
-      let o = Whole.one_form (situation_law p).lawful s c h in
-      ap (codes_at (field_width p)) (sym o.1) ∙ codes_written_at o.0
+-- a record by itself
+pub codes_alone : (s : List ℕ) (c : Codes) → whole situation s ≡ accepted c → codes_at s ≡ c
+codes_alone s c h =
+    let o = Whole.one_form situation_law.lawful s c h in
+    ap codes_at (sym o.1) ∙ codes_written_at c o.0
 
 -- ---- the plan
 pub plan_written_at : (p : Plan) (rest : List ℕ) → plan_at (plan.written p ++ rest) ≡ p

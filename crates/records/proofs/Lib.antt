@@ -2,7 +2,6 @@ pub mod RecordLaws
 pub mod QuestionLaws
 pub mod PlanForms
 pub mod Editions
-pub mod LongPlans
 pub mod SituationForms
 pub mod InBytes
 pub mod Fronts
@@ -14,7 +13,5 @@ pub mod CodeByCode
 pub mod CodesLaws
 pub mod NoSituation
 pub mod FieldRead
-pub mod FieldWritten
-pub mod Put
 pub mod QuestionRead
 pub mod Lies

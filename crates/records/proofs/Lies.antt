@@ -19,7 +19,7 @@ use Rattle.records.specs.Situation.{situation}
 use Rattle.records.specs.Lists.{one_event, events, one_reading, readings, answer_length}
 use Rattle.records.specs.Question.{Parts, question}
 use Rattle.records.specs.Laid.{si_at, ev_at, rd_at, ln_at}
-use Rattle.records.specs.InBytes.{part, plan_at, plan_size, codes_at, field_width, situation_size, events_in, readings_in}
+use Rattle.records.specs.InBytes.{part, plan_at, plan_size, codes_at, situation_size, events_in, readings_in}
 use Rattle.records.proofs.QuestionLaws.{one_form}
 use Rattle.records.proofs.PlanForms.{plan_size_is}
 use Rattle.records.proofs.SituationForms.{size_is}
@@ -55,7 +55,7 @@ module _ (s : List ℕ) (v : Parts) (h : whole question s ≡ accepted v) where
   from_ev = events.written v.1.1.0 ++ from_rd
 
   abbrev from_si : List ℕ
-  from_si = (situation v.0).written v.1.0 ++ from_ev
+  from_si = situation.written v.1.0 ++ from_ev
 
   from_lb : s ≡ plan.written v.0 ++ from_si
   unfolding question
@@ -65,7 +65,7 @@ module _ (s : List ℕ) (v : Parts) (h : whole question s ≡ accepted v) where
   at_si = ap (drop (si_at v)) from_lb ∙ drop_at (plan.written v.0) from_si (si_at v) refl
 
   at_ev : drop (ev_at v) s ≡ from_ev
-  at_ev = lies_before s ((situation v.0).written v.1.0) from_ev (si_at v) at_si
+  at_ev = lies_before s (situation.written v.1.0) from_ev (si_at v) at_si
 
   at_rd : drop (rd_at v) s ≡ from_rd
   at_rd = lies_before s (events.written v.1.1.0) from_rd (ev_at v) at_ev
@@ -75,7 +75,7 @@ module _ (s : List ℕ) (v : Parts) (h : whole question s ≡ accepted v) where
 
   -- ---- what the form can write
   pub record Fits : Type 0 where
-    pub situation : (situation v.0).writes v.1.0 ≡ true
+    pub situation : situation.writes v.1.0 ≡ true
     pub events : (1 ≤ length v.1.1.0) × (length v.1.1.0 ≤ 12)
     pub readings : length v.1.1.1.0 ≤ 6
 
@@ -83,7 +83,7 @@ module _ (s : List ℕ) (v : Parts) (h : whole question s ≡ accepted v) where
   unfolding question events readings answer_length
   fits =
       let w = both (plan.writes v.0) _ (one_form s v h).0 in
-      let a = both ((situation v.0).writes v.1.0) _ w.1 in
+      let a = both (situation.writes v.1.0) _ w.1 in
       let b = both (events.writes v.1.1.0) _ a.1 in
       let c = both (readings.writes v.1.1.1.0) _ b.1 in
       let d = (both (leb 1 (length v.1.1.0) and leb (length v.1.1.0) 12) _ b.0).0 in
@@ -96,9 +96,9 @@ module _ (s : List ℕ) (v : Parts) (h : whole question s ≡ accepted v) where
   pub plan_lies : plan_at s ≡ v.0
   plan_lies = ap plan_at from_lb ∙ plan_written_at v.0 from_si
 
-  pub situation_lies : codes_at (field_width v.0) (part (si_at v) (ev_at v) s) ≡ v.1.0
+  pub situation_lies : codes_at (part (si_at v) (ev_at v) s) ≡ v.1.0
   situation_lies =
-      ap (codes_at (field_width v.0)) (lies s ((situation v.0).written v.1.0) from_ev (si_at v) at_si) ∙ codes_written_at v.0 v.1.0 fits.situation
+      ap codes_at (lies s (situation.written v.1.0) from_ev (si_at v) at_si) ∙ codes_written_at v.1.0 fits.situation
 
   pub events_lie : part (ev_at v + 3) (rd_at v) s ≡ each_written one_event v.1.1.0
   unfolding events
@@ -133,16 +133,16 @@ module _ (s : List ℕ) (v : Parts) (h : whole question s ≡ accepted v) where
 
   pub record Long : Type 0 where
     pub si : si_at v ≡ plan_size v.0
-    pub ev : ev_at v ≡ plan_size v.0 + situation_size v.0 v.1.0
-    pub rd : rd_at v ≡ 3 + plan_size v.0 + situation_size v.0 v.1.0 + 2 * length v.1.1.0
-    pub ln : ln_at v ≡ 6 + plan_size v.0 + situation_size v.0 v.1.0 + 2 * length v.1.1.0 + 3 * length v.1.1.1.0
-    pub end : length s ≡ 9 + plan_size v.0 + situation_size v.0 v.1.0 + 2 * length v.1.1.0 + 3 * length v.1.1.1.0
+    pub ev : ev_at v ≡ plan_size v.0 + situation_size v.1.0
+    pub rd : rd_at v ≡ 3 + plan_size v.0 + situation_size v.1.0 + 2 * length v.1.1.0
+    pub ln : ln_at v ≡ 6 + plan_size v.0 + situation_size v.1.0 + 2 * length v.1.1.0 + 3 * length v.1.1.1.0
+    pub end : length s ≡ 9 + plan_size v.0 + situation_size v.1.0 + 2 * length v.1.1.0 + 3 * length v.1.1.1.0
 
   lb_long : length (plan.written v.0) ≡ plan_size v.0
   lb_long = plan_size_is v.0
 
-  si_long : length ((situation v.0).written v.1.0) ≡ situation_size v.0 v.1.0
-  si_long = size_is v.0 v.1.0 fits.situation
+  si_long : length (situation.written v.1.0) ≡ situation_size v.1.0
+  si_long = size_is v.1.0 fits.situation
 
   ev_long : length (events.written v.1.1.0) ≡ 3 + 2 * length v.1.1.0
   unfolding events

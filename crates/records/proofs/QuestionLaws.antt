@@ -15,8 +15,8 @@ use Rattle.records.proofs.RecordLaws.{plan_law, situation_law, events_law, readi
 pub question_law : Lettered (LB ∷ LC ∷ []) question
 unfolding question
 question_law =
-    plan_law then λ p.
-    situation_law p then λ _.
+    plan_law then λ _.
+    situation_law then λ _.
     events_law then λ _.
     readings_law then λ _.
     answer_length_law

@@ -6,7 +6,6 @@ use mathlib.Core.List.{List}
 use native.Mathlib.Omega.{arith}
 use lib.ListN.{length, take, drop, length-drop, drop_of_length-le}
 use lib.Seq.{drop-cons}
-use Rattle.block.specs.declared.line.Plan.{Plan}
 use Rattle.block.specs.declared.event.Event.{Event}
 use Rattle.block.specs.declared.reading.Reading.{Reading}
 use Rattle.forms.specs.declared.Letters.{Letters}
@@ -21,19 +20,14 @@ use Rattle.records.specs.Plan.{plan}
 use Rattle.records.specs.Situation.{Codes, situation}
 use Rattle.records.specs.Lists.{events, readings, answer_length}
 use Rattle.records.specs.Question.{Parts, question}
-use Rattle.records.specs.InBytes.{plan_at}
 use Rattle.records.specs.Laid.{laid_in}
 use Rattle.records.specs.declared.question.Laid.{Laid}
-use Rattle.records.proofs.PlanForms.{plan_long_enough}
-use Rattle.records.proofs.InBytes.{part_from, plan_written_at}
+use Rattle.records.proofs.InBytes.{part_from}
 use Rattle.records.proofs.RecordLaws.{plan_law, situation_law, events_law, readings_law}
 
 -- ---- a record that the code finds, or not: at the front
 pub found_first : {A : Type 0} {ms : List Letters} {F : Form A} (K : Lettered ms F) (s : List ℕ) {r : ℕ} → r ≡ taken F s → (r ≡ 0 → ⊥) → There F r s
 found_first K s e z = rw e (is_there K s (λ q. z (e ∙ q)))
-
-pub plan_long : (s : List ℕ) {k : ℕ} → There plan k s → 4 ≤ length s
-plan_long s t = omega (arith, there_long plan_law.lawful s t, plan_long_enough t.what, t.long)
 
 -- what is found n bytes on ends within the bytes
 pub ends_within : (s : List ℕ) (n : ℕ) {r : ℕ} → n ≤ length s → r ≤ length (take (length s - n) (drop n s)) → n + r ≤ length s
@@ -57,8 +51,8 @@ from_rd = readings ⊗ answer_length
 abbrev from_ev : Form (List Event × (List Reading × ℕ))
 from_ev = events ⊗ from_rd
 
-abbrev from_si : Plan → Form (Codes × (List Event × (List Reading × ℕ)))
-from_si p = situation p ⊗ from_ev
+abbrev from_si : Form (Codes × (List Event × (List Reading × ℕ)))
+from_si = situation ⊗ from_ev
 
 -- ---- the whole
 module _ (s : List ℕ) where
@@ -73,45 +67,38 @@ module _ (s : List ℕ) where
   unfolding question
   no_plan z = nothing_laid (lost question s plan from_si (at_start question s) (not_there plan_law s z))
 
-  -- the plan that the code reads off its record
-  module _ {si : ℕ} (lb : There plan si s) {p : Plan} (e : p ≡ plan_at s) where
-    its_plan : p ≡ lb.what
-    its_plan = e ∙ ap plan_at (plan_law.lawful.one s lb.what (drop si s) lb.is).1 ∙ plan_written_at lb.what (drop si s)
-
-    at_si : Reached question s si (from_si p) (λ b. (p, b))
+  module _ {si : ℕ} (lb : There plan si s) where
+    at_si : Reached question s si from_si (λ b. (lb.what, b))
     unfolding question
-    at_si = rw its_plan (sets_out question s plan from_si (at_start question s) refl lb)
+    at_si = sets_out question s plan from_si (at_start question s) refl lb
 
-    plan_read : length (plan.written p) ≡ si
-    plan_read = rw its_plan (there_long plan_law.lawful s lb)
+    pub no_situation : situation.read (drop si s) ≡ nothing → none_laid ≡ laid_in (whole question s)
+    no_situation e = nothing_laid (lost question s situation from_ev at_si e)
 
-    pub no_situation : (situation p).read (drop si s) ≡ nothing → none_laid ≡ laid_in (whole question s)
-    no_situation e = nothing_laid (lost question s (situation p) (λ _. from_ev) at_si e)
-
-    module _ {k : ℕ} (x : There (situation p) k (drop si s)) where
-      at_ev : Reached question s (si + k) from_ev (λ b. (p, (x.what, b)))
-      at_ev = goes_on question s (situation p) (λ _. from_ev) at_si x
+    module _ {k : ℕ} (x : There situation k (drop si s)) where
+      at_ev : Reached question s (si + k) from_ev (λ b. (lb.what, (x.what, b)))
+      at_ev = goes_on question s situation from_ev at_si x
 
       pub no_events : events.read (drop (si + k) s) ≡ nothing → none_laid ≡ laid_in (whole question s)
-      no_events e = nothing_laid (lost question s events (λ _. from_rd) at_ev e)
+      no_events e = nothing_laid (lost question s events from_rd at_ev e)
 
       module _ {l : ℕ} (es : There events l (drop (si + k) s)) where
-        at_rd : Reached question s (si + k + l) from_rd (λ b. (p, (x.what, (es.what, b))))
-        at_rd = goes_on question s events (λ _. from_rd) at_ev es
+        at_rd : Reached question s (si + k + l) from_rd (λ b. (lb.what, (x.what, (es.what, b))))
+        at_rd = goes_on question s events from_rd at_ev es
 
         pub no_readings : readings.read (drop (si + k + l) s) ≡ nothing → none_laid ≡ laid_in (whole question s)
-        no_readings e = nothing_laid (lost question s readings (λ _. answer_length) at_rd e)
+        no_readings e = nothing_laid (lost question s readings answer_length at_rd e)
 
         module _ {m : ℕ} (rs : There readings m (drop (si + k + l) s)) where
-          at_ln : Reached question s (si + k + l + m) answer_length (λ b. (p, (x.what, (es.what, (rs.what, b)))))
-          at_ln = goes_on question s readings (λ _. answer_length) at_rd rs
+          at_ln : Reached question s (si + k + l + m) answer_length (λ b. (lb.what, (x.what, (es.what, (rs.what, b)))))
+          at_ln = goes_on question s readings answer_length at_rd rs
 
           pub no_length : answer_length.read (drop (si + k + l + m) s) ≡ nothing → none_laid ≡ laid_in (whole question s)
           no_length e = nothing_laid (lost_last question s answer_length at_ln e)
 
           module _ {j : ℕ} (n : There answer_length j (drop (si + k + l + m) s)) where
             abbrev parts : Parts
-            parts = (p, (x.what, (es.what, (rs.what, n.what))))
+            parts = (lb.what, (x.what, (es.what, (rs.what, n.what))))
 
             all_read : question.read s ≡ found parts (drop (si + k + l + m + j) s)
             all_read = at_last question s answer_length at_ln n
@@ -123,7 +110,8 @@ module _ (s : List ℕ) where
             pub all_laid : length s ≤ si + k + l + m + j → ◌≡◌ {A = Laid} (record { there = true; si = si; ev = si + k; rd = si + k + l; ln = si + k + l + m }) (laid_in (whole question s))
             unfolding whole
             all_laid h =
-                let b = there_long (situation_law p).lawful (drop si s) x in
+                let a = there_long plan_law.lawful s lb in
+                let b = there_long situation_law.lawful (drop si s) x in
                 let c = there_long events_law.lawful (drop (si + k) s) es in
                 let d = there_long readings_law.lawful (drop (si + k + l) s) rs in
-                rw (all_read, drop_of_length-le s h, plan_read, b, c, d)
+                rw (all_read, drop_of_length-le s h, a, b, c, d)

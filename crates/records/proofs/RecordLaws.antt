@@ -6,7 +6,6 @@ use mathlib.Core.List.{[], ◌∷◌}
 use borrow.Author.Tests.{eqb-true}
 use lib.Dec.{eqb}
 use Rattle.words.specs.Words.{flag}
-use Rattle.block.specs.declared.line.Plan.{Plan}
 use Rattle.forms.specs.Form.{Form}
 use Rattle.forms.specs.Compose.{◌⊗◌, named}
 use Rattle.forms.specs.Choices.{left_out, always}
@@ -15,11 +14,11 @@ use Rattle.forms.proofs.Reading.{both}
 use Rattle.forms.proofs.Simple.{byte_law, left_out_law, always_law, named_law}
 use Rattle.forms.proofs.Sequence.{sequence_law}
 use Rattle.forms.proofs.Lettered.{letters_law}
-use Rattle.forms.proofs.Choice.{choice_law, if_law}
+use Rattle.forms.proofs.Choice.{choice_law}
 use Rattle.forms.proofs.Lists.{counted_law}
 use Rattle.forms.proofs.Fields.{section_law}
-use Rattle.records.specs.Plan.{LB, LC, plan_of, plan_parts, plan_body, plan, is_long}
-use Rattle.records.specs.Situation.{SI, SJ, SK, codes_made, code_parts, body, pair, on_a_short_plan, on_a_long_plan, situation}
+use Rattle.records.specs.Plan.{LB, LC, plan_of, plan_parts, plan_body, plan}
+use Rattle.records.specs.Situation.{SI, SJ, codes_made, code_parts, body, pair, situation}
 use Rattle.records.specs.Lists.{EV, RD, LN, event_of, event_parts, one_event, events, reading_of, reading_parts, one_reading, readings, answer_length}
 use Rattle.records.proofs.PlanForms.{is_2012, same_plan}
 
@@ -44,23 +43,14 @@ plan_law = choice_law (letters_law LB LB_law) (letters_law LC LC_law) refl
 pub pair_law : Lawful pair
 pair_law = byte_law & byte_law
 
--- section fields of w bytes each
-pub codes_law : (w : ℕ) {each : Form ℕ} → Lawful each → Lawful (named codes_made code_parts (body w each))
-codes_law w L =
+pub codes_law : {each : Form ℕ} → Lawful each → Lawful (named codes_made code_parts (body each))
+codes_law L =
     named_law codes_made code_parts (λ v w. refl) (λ c. refl)
-    (byte_law & pair_law & pair_law & pair_law & pair_law & byte_law & byte_law & byte_law & byte_law & section_law w & section_law w & section_law w & L & L)
+    (byte_law & pair_law & pair_law & pair_law & pair_law & byte_law & byte_law & byte_law & byte_law & section_law 2 & section_law 2 & section_law 2 & L & L)
 
-short_plan_law : Lettered (SI ∷ SJ ∷ []) on_a_short_plan
-unfolding on_a_short_plan
-short_plan_law = choice_law (letters_law SI (codes_law 2 (left_out_law 0))) (letters_law SJ (codes_law 2 byte_law)) refl
-
-long_plan_law : Lettered (SK ∷ []) on_a_long_plan
-unfolding on_a_long_plan
-long_plan_law = letters_law SK (codes_law 6 byte_law)
-
-pub situation_law : (p : Plan) → Lettered (SK ∷ SI ∷ SJ ∷ []) (situation p)
+pub situation_law : Lettered (SI ∷ SJ ∷ []) situation
 unfolding situation
-situation_law p = if_law (is_long p) long_plan_law short_plan_law
+situation_law = choice_law (letters_law SI (codes_law (left_out_law 0))) (letters_law SJ (codes_law byte_law)) refl
 
 pub event_law : Lawful one_event
 event_law = named_law event_of event_parts (λ v w. refl) (λ e. refl) (byte_law & byte_law)

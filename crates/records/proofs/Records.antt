@@ -28,8 +28,8 @@ a_byte = (byte_law, byte_takes)
 abbrev a_pair : Lawful pair × Takes 2 pair
 a_pair = (pair_law, a_byte && byte_takes)
 
-abbrev a_field : (w : ℕ) → Lawful (section w) × Takes w (section w)
-a_field w = (section_law w, section_takes w)
+abbrev a_field : Lawful (section 2) × Takes 2 (section 2)
+a_field = (section_law 2, section_takes 2)
 
 -- n and b of LB; of LC the byte more
 pub LB_takes : Takes 2 (plan_body (left_out 0))
@@ -38,14 +38,14 @@ LB_takes = named_takes plan_of plan_parts (a_byte && a_byte && left_out_takes 0)
 pub LC_size : Size 3 (plan_body (always 1))
 LC_size = named_size plan_of plan_parts (sequence_size byte_takes.sized (sequence_size byte_takes.sized (only_size (λ e. eqb e 1) byte_takes.sized)))
 
--- the codes up to the section fields, these of w bytes each, and two more of n bytes each
-abbrev pub codes_size : ℕ → ℕ → ℕ
-codes_size w n = 1 + (2 + (2 + (2 + (2 + (1 + (1 + (1 + (1 + (w + (w + (w + (n + n))))))))))))
+-- the codes up to the sections held towards A, and two more of so many bytes each
+abbrev codes_size : ℕ → ℕ
+codes_size n = 1 + (2 + (2 + (2 + (2 + (1 + (1 + (1 + (1 + (2 + (2 + (2 + (n + n))))))))))))
 
-pub codes_takes : (w : ℕ) {each : Form ℕ} {n : ℕ} → Lawful each → Takes n each → Takes (codes_size w n) (named codes_made code_parts (body w each))
-codes_takes w L Z =
+pub codes_takes : {each : Form ℕ} {n : ℕ} → Lawful each → Takes n each → Takes (codes_size n) (named codes_made code_parts (body each))
+codes_takes L Z =
     named_takes codes_made code_parts
-    (a_byte && a_pair && a_pair && a_pair && a_pair && a_byte && a_byte && a_byte && a_byte && a_field w && a_field w && a_field w && (L, Z) && Z)
+    (a_byte && a_pair && a_pair && a_pair && a_pair && a_byte && a_byte && a_byte && a_byte && a_field && a_field && a_field && (L, Z) && Z)
 
 event_takes : Takes 2 one_event
 event_takes = named_takes event_of event_parts (a_byte && byte_takes)

@@ -12,7 +12,7 @@ module _ (v : Parts) where
   si_at = length (plan.written v.0)
 
   abbrev pub ev_at : ℕ
-  ev_at = si_at + length ((situation v.0).written v.1.0)
+  ev_at = si_at + length (situation.written v.1.0)
 
   abbrev pub rd_at : ℕ
   rd_at = ev_at + length (events.written v.1.1.0)

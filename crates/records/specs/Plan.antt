@@ -1,5 +1,5 @@
 -- "LB, n, b." 02, Req 05: "Record LC is LB with one byte more, always 1, for the 2012 rules; LB means 2024." "20 for another last byte in LC."
-use Rattle.std.specs.Prelude.{ℕ, Bool, eqb, ltb}
+use Rattle.std.specs.Prelude.{ℕ, eqb}
 use Rattle.words.specs.Words.{flag}
 use Rattle.block.specs.declared.line.Plan.{Plan}
 use Rattle.forms.specs.declared.Letters.{Letters}
@@ -37,7 +37,3 @@ of_2012 = letters LC (plan_body (always 1))
 
 unfoldable pub plan : Form Plan
 plan = of_2024 or_else of_2012
-
--- 02, Req 06: "Plans of up to sixteen sections keep their present records; longer ones use SK only." By n alone, whether or not it is a plan.
-abbrev pub is_long : Plan → Bool
-is_long p = ltb 16 p.sections

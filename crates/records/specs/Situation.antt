@@ -1,12 +1,10 @@
 -- "SI, 19 bytes": "link; orientation A, B; annulment A, B; exit A, B; entry A, B; pending; BILC, BSLG, reminder as bits (1 A, 2 B); occupied,
 -- held towards B, held towards A, each two bytes, low byte first, bit k-1 for section k." The situation is kept as A sees it.
 -- 02, Req 02: "Record SJ is SI with the mark and the count added, a byte each; SI means both zero." "20 for SJ with both zero."
--- 02, Req 06: "Record SK is SJ with six bytes for each of the three section fields." "20 for SK on a short plan or SJ or SI on a long one."
 use Rattle.std.specs.Prelude.{ℕ, ◌+◌, ◌*◌, ◌/◌, ◌%◌, Bool, true, false, eqb, leb}
 use Rattle.words.specs.Words.{◌and◌, if◌then◌else◌, flag}
 use Rattle.rulebook.specs.Situation.{Station, Kept, fresh, with_link, with_pending}
 use Rattle.block.specs.Codes.{orientation_code, annulment_code, route_code, pending_code}
-use Rattle.block.specs.declared.line.Plan.{Plan}
 use Rattle.block.specs.declared.codes.Orientation.{Orientation}
 use Rattle.block.specs.declared.codes.Annulment.{Annulment}
 use Rattle.block.specs.declared.codes.Route.{Route}
@@ -15,16 +13,12 @@ use Rattle.forms.specs.declared.Letters.{Letters}
 use Rattle.forms.specs.Form.{Form}
 use Rattle.forms.specs.Compose.{byte, ◌⊗◌, letters, section, named}
 use Rattle.forms.specs.Choices.{left_out, ◌or_else◌}
-use Rattle.records.specs.Plan.{is_long}
 
 abbrev pub SI : Letters
 SI = record { first = 83; second = 73 }
 
 abbrev pub SJ : Letters
 SJ = record { first = 83; second = 74 }
-
-abbrev pub SK : Letters
-SK = record { first = 83; second = 75 }
 
 -- a code of A and one of B
 abbrev pub Pair : Type 0
@@ -74,31 +68,21 @@ code_parts c = (c.link, (c.orientation, (c.annulment, (c.exit, (c.entry, (c.pend
 abbrev pub pair : Form Pair
 pair = byte ⊗ byte
 
--- the bytes in their order; the section fields of w bytes each; mark and count, the last two, as the record has them
-abbrev pub body : ℕ → Form ℕ → Form CodeParts
-body w mark_and_count = byte ⊗ pair ⊗ pair ⊗ pair ⊗ pair ⊗ byte ⊗ byte ⊗ byte ⊗ byte ⊗ section w ⊗ section w ⊗ section w ⊗ mark_and_count ⊗ mark_and_count
-
-abbrev pub codes_after : Letters → ℕ → Form ℕ → Form Codes
-codes_after m w mark_and_count = letters m (named codes_made code_parts (body w mark_and_count))
+-- the bytes in their order; mark and count, the last two, as the record has them
+abbrev pub body : Form ℕ → Form CodeParts
+body mark_and_count = byte ⊗ pair ⊗ pair ⊗ pair ⊗ pair ⊗ byte ⊗ byte ⊗ byte ⊗ byte ⊗ section 2 ⊗ section 2 ⊗ section 2 ⊗ mark_and_count ⊗ mark_and_count
 
 -- "SI means both zero"
 abbrev pub without_watch : Form Codes
-without_watch = codes_after SI 2 (left_out 0)
+without_watch = letters SI (named codes_made code_parts (body (left_out 0)))
 
 -- "the mark and the count added, a byte each"
 abbrev pub with_watch : Form Codes
-with_watch = codes_after SJ 2 byte
+with_watch = letters SJ (named codes_made code_parts (body byte))
 
--- "Plans of up to sixteen sections keep their present records": SJ exactly where SI cannot say it; SJ with both zero is read as nothing: 20
-unfoldable pub on_a_short_plan : Form Codes
-on_a_short_plan = without_watch or_else with_watch
-
--- "longer ones use SK only", both zero or not: "SJ with six bytes for each of the three section fields"
-unfoldable pub on_a_long_plan : Form Codes
-on_a_long_plan = codes_after SK 6 byte
-
-unfoldable pub situation : Plan → Form Codes
-situation p = if is_long p then on_a_long_plan else on_a_short_plan
+-- SJ exactly where SI cannot say it; SJ with both zero is read as nothing: 20
+unfoldable pub situation : Form Codes
+situation = without_watch or_else with_watch
 
 -- ---- the codes of a situation
 -- "as bits (1 A, 2 B)"

@@ -1,8 +1,8 @@
 // LB, n, b, or LC, n, b, 1: the plan, by the rules of 2024 or of 2012.
 ghost use Rattle.std.specs.Prelude.{◌≡◌, ◌≤◌, length};
 ghost use Rattle.forms.specs.Taken.{taken};
-ghost use Rattle.records.specs.Plan.{plan, is_long};
-ghost use Rattle.records.specs.InBytes.{plan_at, plan_size, field_width};
+ghost use Rattle.records.specs.Plan.{plan};
+ghost use Rattle.records.specs.InBytes.{plan_at, plan_size};
 
 use super::form::stands;
 use block::line::Plan;
@@ -61,24 +61,4 @@ pub fn plan_size(p: Plan) -> usize
         return LC_SIZE;
     }
     LB_SIZE
-}
-
-// "Plans of up to sixteen sections keep their present records."
-const MOST_ON_SHORT: u8 = 16;
-
-// By n alone, whether or not it is a plan.
-pub fn is_long(p: Plan) -> bool
-    ensures { result ≡ is_long p }
-{
-    MOST_ON_SHORT < p.sections
-}
-
-// How many bytes each section field of the plan's situations has.
-pub fn field_width(p: Plan) -> usize
-    ensures { (result ≡ field_width p) × (result ≤ 6) }
-{
-    if is_long(p) {
-        return 6;
-    }
-    2
 }

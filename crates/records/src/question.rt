@@ -5,10 +5,10 @@ ghost use Rattle.records.specs.Question.{question};
 ghost use Rattle.records.specs.Laid.{laid_in};
 
 use super::lists::{take_events, take_length, take_readings};
-use super::plan::{plan_in, take_plan};
+use super::plan::take_plan;
 use super::situation::take_situation;
 
-// Whether the bytes are the records of a question, and where SI, SJ or SK, EV, RD and LN begin; else zeros.
+// Whether the bytes are the records of a question, and where SI or SJ, EV, RD and LN begin; else zeros.
 #[derive(Drop)]
 pub struct Laid {
     pub there: bool,
@@ -33,8 +33,7 @@ pub fn where_laid(bytes: &[u8]) -> Laid
     if si == 0 {
         return NOWHERE;
     }
-    let plan = plan_in(bytes);
-    let situation = take_situation(&bytes[si..], plan);
+    let situation = take_situation(&bytes[si..]);
     if situation == 0 {
         return NOWHERE;
     }

@@ -1,13 +1,13 @@
 -- An accepted event, but a second that passes, does what it says: it was not so before, and it is so after; so it changes the situation.
 -- Assumes nothing.
-use Prim.Native.Nat.{ℕ, ◌≤◌}
+use Prim.Native.Nat.{ℕ, ◌<◌}
 use mathlib.Core.Bool.{Bool, true, false, not}
 use mathlib.Core.Path.{◌≡◌, refl, sym, ap, subst, ◌∙◌}
 use native.Mathlib.Omega.{arith}
 use borrow.Author.Tests.{not-false}
 use lib.Dec.{T, eqb}
 use Rattle.words.specs.Words.{◌and◌, ◌or◌}
-use Rattle.sections.specs.Sections.{most_sections, ◌belongs_to◌, ◌with_section◌, ◌without_section◌}
+use Rattle.sections.specs.Sections.{◌belongs_to◌, ◌with_section◌, ◌without_section◌}
 use Rattle.sections.proofs.SetLaws.{has_with_same, has_without_same}
 use Rattle.block.specs.Line.{is_plan}
 use Rattle.block.proofs.PlanLaws.{plan_short}
@@ -91,10 +91,10 @@ held_is : (x : Situation) (d : Direction) (m : ℕ) → held_towards d (with_hel
 held_is x TowardsA m = refl
 held_is x TowardsB m = refl
 
-short_signal : (k : Kind) → T (eqb k.argument signal) → (at : Spot) (x : Situation) → Right k at x → at.section ≤ most_sections
+short_signal : (k : Kind) → T (eqb k.argument signal) → (at : Spot) (x : Situation) → Right k at x → at.section < 49
 short_signal k t at x ok = let l = (ok.placed.signal t).line in omega (arith, l.high, l.short)
 
-short_section : (k : Kind) → T (eqb k.argument section) → (at : Spot) (x : Situation) → Right k at x → at.section ≤ most_sections
+short_section : (k : Kind) → T (eqb k.argument section) → (at : Spot) (x : Situation) → Right k at x → at.section < 49
 short_section k t at x ok = let l = ok.placed.section t in omega (arith, l.high, l.short)
 
 does_bslb : Does Bslb

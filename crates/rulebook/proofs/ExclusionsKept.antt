@@ -1,6 +1,6 @@
 -- (02, Req 05) Every accepted event keeps apart what 2012 keeps apart: by reasoning on what it writes of annulment, BILC, BSLG and the held signals.
 -- Assumes nothing.
-use Prim.Native.Nat.{ℕ, ◌≤◌}
+use Prim.Native.Nat.{ℕ, ◌≤◌, ◌<◌}
 use mathlib.Core.Bool.{Bool, true, false, not, true≢false, false≢true}
 use mathlib.Core.Path.{◌≡◌, refl, sym, ap, ap₂, subst, ◌∙◌}
 use native.Mathlib.Decide.{ℕ_discrete}
@@ -8,7 +8,7 @@ use native.Mathlib.Omega.{arith}
 use lib.Dec.{T, eqb, eqb→eq}
 use Rattle.words.specs.Words.{◌and◌, ◌or◌, ◌implies◌, if◌then◌else◌}
 use Rattle.words.proofs.Tests.{is_holds, holds_is, fails_is, both_off, not_equal, if_case}
-use Rattle.sections.specs.Sections.{most_sections, ◌belongs_to◌, ◌with_section◌, ◌without_section◌}
+use Rattle.sections.specs.Sections.{◌belongs_to◌, ◌with_section◌, ◌without_section◌}
 use Rattle.sections.proofs.SetLaws.{has_with_other, has_without_same, has_without_other}
 use Rattle.block.specs.Line.{in_area, owner, opposite, same_station}
 use Rattle.block.proofs.SomeSection.{none_of, of_none}
@@ -60,7 +60,7 @@ module _ (p : Plan) (s : Name) where
       go k off false e = refl
 
 -- ---- a signal more, elsewhere, or one less
-module _ (k : ℕ) (short : k ≤ most_sections) (h : Held) where
+module _ (k : ℕ) (short : k < 49) (h : Held) where
   written : (write : ℕ → ℕ) (j : ℕ) → ((m : ℕ) → (j belongs_to m) ≡ false → (j belongs_to write m) ≡ false)
       → (d c : Direction) → (j belongs_to held_towards c h) ≡ false → (j belongs_to held_towards c (with_held_towards d (write (held_towards d h)) h)) ≡ false
   written write j f TowardsA TowardsA e = f h.towardsa e
@@ -88,7 +88,7 @@ module _ (k : ℕ) (short : k ≤ most_sections) (h : Held) where
       (λ t. held_none p s (with_held_towards d (held_towards d h without_section k) h) λ j low high there c.
       written (λ (m : ℕ). m without_section k) j (λ m. one_less j m) d c (before j low high there c))
 
-signals_stay : (p : Plan) (s : Name) (code : ℕ) (at : Place) (g : Signals) → (T (of_signal code) → at.section ≤ most_sections) → (T (eqb code Bslb.code) → in_area p s at.section ≡ false)
+signals_stay : (p : Plan) (s : Name) (code : ℕ) (at : Place) (g : Signals) → (T (of_signal code) → at.section < 49) → (T (eqb code Bslb.code) → in_area p s at.section ≡ false)
     → any_held p s g.held ≡ false → any_held p s (signals_after code at g).held ≡ false
 signals_stay p s code at g short elsewhere e =
     if_case (λ (r : Signals). any_held p s r.held ≡ false) (of_signal code) _ g
@@ -197,7 +197,7 @@ pub record Excluded (p : Plan) (s : Name) (x : Situation) : Type 0 where
 -- what the place says, where it is that of the event
 pub record Here (e : Kind) (at : Place) (x : Situation) : Type 0 where
   pub held : at.held_here ≡ held_in_area at.plan at.own x
-  pub short : T (of_signal e.code) → at.section ≤ most_sections
+  pub short : T (of_signal e.code) → at.section < 49
   pub owned : T (of_signal e.code) → at.own ≡ owner at.plan at.section
   pub passed : at.plan.rules2012 ≡ true → Passed x.traffic.own at.held_here e.code
 

@@ -5,7 +5,6 @@ use mathlib.Core.Path.{◌≡◌, subst}
 use native.Mathlib.Omega.{arith}
 use borrow.Author.Tests.{lt-leb}
 use lib.Dec.{T, eqb, eqb→eq}
-use Rattle.sections.specs.Sections.{most_sections}
 use Rattle.words.proofs.Tests.{and_at, holds_is, not_equal}
 use Rattle.block.specs.Line.{is_section, first_section, entrance, direction_of, section_of, is_block_signal, is_exit}
 use Rattle.block.proofs.PlanLaws.{within}
@@ -18,7 +17,7 @@ use Rattle.block.specs.declared.line.Direction.{Direction}
 pub record InLine (n k : ℕ) : Type 0 where
   pub low : 1 ≤ k
   pub high : k ≤ n
-  pub short : n ≤ most_sections
+  pub short : n < 49
 
 -- the section of a signal is not the one of its direction's exit signal
 pub record OfBlockSignal (q : Plan) (d : Direction) (k : ℕ) : Type 0 where
@@ -29,7 +28,7 @@ pub record Placed (q : Plan) (names k : ℕ) (d : Direction) : Type 0 where
   pub section : T (eqb names section) → InLine q.sections k
   pub signal : T (eqb names signal) → OfBlockSignal q d k
 
-module _ (q : Plan) (short : q.sections ≤ most_sections) where
+module _ (q : Plan) (short : q.sections < 49) where
   in_line : (k : ℕ) → T (is_section q k) → InLine q.sections k
   in_line k t =
       let w = within q k (holds_is (is_section q k) t) in

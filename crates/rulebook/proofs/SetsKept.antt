@@ -1,11 +1,11 @@
 -- Every event keeps the sets of a sound situation within the plan. Assumes nothing.
-use Prim.Native.Nat.{ℕ, ◌≤◌}
+use Prim.Native.Nat.{ℕ, ◌<◌}
 use mathlib.Core.Bool.{not}
 use mathlib.Core.Path.{◌≡◌, sym, ap, subst}
 use native.Mathlib.Omega.{arith}
 use lib.Dec.{T, eqb}
 use Rattle.words.specs.Words.{◌and◌}
-use Rattle.sections.specs.Sections.{most_sections, ◌belongs_to◌, ◌with_section◌, ◌without_section◌, sections_up_to}
+use Rattle.sections.specs.Sections.{◌belongs_to◌, ◌with_section◌, ◌without_section◌, sections_up_to}
 use Rattle.words.proofs.Tests.{and_at, and_of, if_case}
 use Rattle.sections.proofs.SetLaws.{has_with_other, has_without_other, with_up_to, without_up_to}
 use Rattle.block.specs.Line.{first_section, entrance}
@@ -25,7 +25,7 @@ module _ (n k j m : ℕ) (l : InLine n k) (other : k ≡ j → ⊥) (s : T (sect
   parts : T (sections_up_to n m) × T (not (j belongs_to m))
   parts = and_at (sections_up_to n m) (not (j belongs_to m)) s
 
-  in_word : k ≤ most_sections
+  in_word : k < 49
   in_word = omega (arith, l.high, l.short)
 
   with_kept : T (sections_up_to n (m with_section k) and not (j belongs_to (m with_section k)))

@@ -1,5 +1,5 @@
 -- (02, Req 02) Every event keeps the clauses on mark and count: by reasoning on what it does to the track, not by counting. Assumes nothing.
-use Prim.Native.Nat.{ℕ, ◌≤◌}
+use Prim.Native.Nat.{ℕ, ◌≤◌, ◌<◌}
 use mathlib.Core.Bool.{Bool, true, false, not, true≢false, false≢true}
 use mathlib.Core.Path.{◌≡◌, refl, sym, ap, ap₂, subst, ◌∙◌}
 use native.Mathlib.Omega.{arith}
@@ -8,7 +8,7 @@ use lib.Bits.{and_zero_l, xor_zero_l}
 use lib.Dec.{T, eqb, leb→le}
 use Rattle.words.specs.Words.{◌and◌, ◌or◌, ◌implies◌, if◌then◌else◌}
 use Rattle.words.proofs.Tests.{holds_is, fails_is, is_holds, and_at, and_of, both_off, or_turned}
-use Rattle.sections.specs.Sections.{most_sections, none, ◌belongs_to◌, only, ◌with_section◌, ◌without_section◌}
+use Rattle.sections.specs.Sections.{none, ◌belongs_to◌, only, ◌with_section◌, ◌without_section◌}
 use Rattle.sections.proofs.SetLaws.{has_with_same, none_has}
 use Rattle.rulebook.specs.Place.{Place}
 use Rattle.rulebook.specs.Situation.{Track, Situation, turned_round, any_exit_route, none_occupied, count_runs, ◌has_exit_route}
@@ -108,7 +108,7 @@ module _ (at : Place) (x : Situation) (w : Watched x.traffic.track (any_exit_rou
   abbrev After : Touch → Type 0
   After t = Watched (track_after t at x) (routed_after t x)
 
-  section_taken : at.section ≤ most_sections → (track.occupied with_section at.section) ≡ none → ⊥
+  section_taken : at.section < 49 → (track.occupied with_section at.section) ≡ none → ⊥
   section_taken h e = true≢false (sym (has_with_same track.occupied at.section h) ∙ ap (λ (m : ℕ). at.section belongs_to m) e ∙ none_has at.section)
 
   none_left : track.occupied ≡ none → still_occupied at x ≡ none
@@ -145,7 +145,7 @@ module _ (at : Place) (x : Situation) (w : Watched x.traffic.track (any_exit_rou
             w.lasting s.0 o (omega (arith, z, not-one));
       }
 
-  after : (t : Touch) → (T (of_section t) → at.section ≤ most_sections) → After t
+  after : (t : Touch) → (T (of_section t) → at.section < 49) → After t
   after sets_route f = record { low = omega arith; explained = λ d. absurd (d refl); unrouted = λ m. absurd (false≢true m); lasting = λ m o z. false≢true m }
   after releases_route f =
       record { low = w.low; explained = w.explained; unrouted = λ m. (both_off (x.traffic.own has_exit_route) (x.traffic.other has_exit_route) (w.unrouted m)).1; lasting = w.lasting }
@@ -160,7 +160,7 @@ module _ (at : Place) (x : Situation) (w : Watched x.traffic.track (any_exit_rou
   after lowers f = lowered
   after leaves f = w
 
-pub watch_kept : (e : Kind) (at : Place) (x : Situation) → Framed e at x → (T (of_section (touch e.code)) → at.section ≤ most_sections) → T (watch_sound x) → T (watch_sound (next e at x))
+pub watch_kept : (e : Kind) (at : Place) (x : Situation) → Framed e at x → (T (of_section (touch e.code)) → at.section < 49) → T (watch_sound x) → T (watch_sound (next e at x))
 watch_kept e at x f short t =
     let touched : Touch = touch e.code in
     let w = after at x (facts x.traffic.track (any_exit_route x) t) touched short in

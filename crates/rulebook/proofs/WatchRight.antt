@@ -8,7 +8,7 @@ use borrow.Author.Tests.{eq-eqb, ne_eqb, lt-leb}
 use lib.Dec.{T, eqb}
 use Rattle.words.specs.Words.{◌and◌, if◌then◌else◌}
 use Rattle.words.proofs.Tests.{holds_is, and_true, or_turned}
-use Rattle.sections.specs.Sections.{most_sections, none, ◌belongs_to◌, only, ◌without_section◌}
+use Rattle.sections.specs.Sections.{none, ◌belongs_to◌, only, ◌without_section◌}
 use Rattle.sections.proofs.SetLaws.{has_without_same, has_without_other, no_sections}
 use Rattle.sections.proofs.SetsOfSets.{in_only}
 use Rattle.block.specs.Line.{is_plan, is_section, section_of}
@@ -125,7 +125,7 @@ module _ (p : Plan) (plan : T (is_plan p)) where
     in_line : Within p k
     in_line = within p k (holds_is (is_section p k) s.is_section)
 
-    short : k ≤ most_sections
+    short : k < 49
     short = omega (arith, in_line.most, plan_short p plan)
 
     itself : section_of k ≡ k

@@ -254,7 +254,7 @@ both_out x = x.traffic.own is_out and x.traffic.other is_out
 abbrev pub both_none : Situation → Bool
 both_none x = x.traffic.own is_none and x.traffic.other is_none
 
--- (02, Req 02) neither mark nor count: "both zero"
+-- (02, Req 02) "SI means both zero"
 abbrev pub no_watch : Watch
 no_watch = record { mark = false; count = 0 }
 

@@ -7,7 +7,7 @@ use native.Mathlib.Decide.{dec_lt, ℕ_discrete}
 use lib.Dec.{T, eqb, ltb}
 use borrow.Author.Tests.{eq-eqb, ne_eqb, le-leb, lt-leb, lt-ltb}
 use Rattle.words.specs.Words.{◌and◌, ◌or◌, if◌then◌else◌}
-use Rattle.sections.specs.Sections.{most_sections, none, ◌belongs_to◌, only}
+use Rattle.sections.specs.Sections.{none, ◌belongs_to◌, only}
 use Rattle.sections.specs.Sets.{both, either, ◌minus◌, one_down, one_up}
 use Rattle.sections.proofs.SetLaws.{none_has}
 use Rattle.sections.proofs.SetsOfSets.{in_both, in_either, in_minus, in_only, in_given, in_one_down, in_one_up}
@@ -23,7 +23,7 @@ use Rattle.block.specs.declared.line.Direction.TheVariants.{TowardsA, TowardsB}
 use Rattle.aspects.specs.Aspects.{runs, is_open}
 use Rattle.signals.specs.SignalSets.{Those, OffLine, leaves, arrives, block_lit, exit_lit, runs_somewhere, next_open, is_green, Moved, OnEdge, number}
 
-pub first_small : (p : Plan) (s : Name) → is_plan p ≡ true → first_section p s ≤ most_sections
+pub first_small : (p : Plan) (s : Name) → is_plan p ≡ true → first_section p s < 49
 first_small p StationA e = omega arith
 first_small p StationB e = let h : Sized p = sized p e in omega arith
 
@@ -192,7 +192,7 @@ module _ (p : Plan) (x : Kept) (d : Direction) (m next edge : ℕ) where
       (in_given k (station x (terminus d)).entry (only last) ∙ ap (λ (v : Bool). (station x (terminus d)).entry and v) (in_only k last small))
       ∙ go (ℕ_discrete k last)
     where
-      small : last ≤ most_sections
+      small : last < 49
       small = first_small p (terminus d) plan
 
       seen : (k belongs_to ahead) ≡ ((k belongs_to next) and not (not x.traffic.link and eqb k edge))
@@ -258,7 +258,7 @@ module _ (p : Plan) where
   pub off_given : (v : Bool) (a : ℕ) → OffLine p a → OffLine p (if v then a else none)
   off_given v a h k e = in_given k v a ∙ ap (λ (w : Bool). v and w) (h k e) ∙ and_off v
 
-  pub off_only : (j : ℕ) → j ≤ most_sections → is_section p j ≡ true → OffLine p (only j)
+  pub off_only : (j : ℕ) → j < 49 → is_section p j ≡ true → OffLine p (only j)
   off_only j small inside k e = in_only k j small ∙ ne_eqb k j (λ (same : k ≡ j). subst T (sym inside ∙ ap (is_section p) (sym same) ∙ e) tt)
 
 pub first_inside : (p : Plan) (s : Name) → is_plan p ≡ true → is_section p (first_section p s) ≡ true

@@ -5,11 +5,11 @@ use mathlib.Core.List.{List, [], ◌∷◌}
 use mathlib.Core.Path.{◌≡◌, refl, ap, ◌∙◌}
 use native.Mathlib.Nat.{mod-lt, mod-eq_of_lt, lt_of_lt_of_le}
 use native.Mathlib.Omega.{arith}
-use borrow.Author.Tests.{leb-true}
-use lib.Dec.{T, eqb, leb, eqb→eq}
+use borrow.Author.Tests.{ltb-true}
+use lib.Dec.{T, eqb, ltb, eqb→eq}
 use lib.Pow.{pow_pos, pow_mono}
 use Rattle.words.specs.Words.{◌and◌}
-use Rattle.sections.specs.Sections.{most_sections, ◌belongs_to◌, sections_up_to}
+use Rattle.sections.specs.Sections.{◌belongs_to◌, sections_up_to}
 use Rattle.words.proofs.Tests.{holds_is, and_at}
 use Rattle.sections.proofs.SetLaws.{below_of}
 use Rattle.sections.proofs.SetsOfSets.{low_bit}
@@ -40,13 +40,13 @@ say_all (f ∷ l) s = say_all l (with_flag f.0 f.1 s)
 
 abbrev small : List Flag → Bool
 small [] = true
-small (f ∷ l) = leb f.0 most_sections and small l
+small (f ∷ l) = ltb f.0 49 and small l
 
 all_said : (l : List Flag) (w : ℕ) (s : Flags) → T (small l) → flags_of w ≡ s → flags_of (set_all l w) ≡ say_all l s
 all_said [] w s t e = e
 all_said (f ∷ l) w s t e =
-    let h = and_at (leb f.0 most_sections) (small l) t in
-    all_said l (flagged w f.0 f.1) (with_flag f.0 f.1 s) h.1 (then_flagged w f.0 f.1 (leb-true f.0 most_sections (holds_is (leb f.0 most_sections) h.0)) e refl)
+    let h = and_at (ltb f.0 49) (small l) t in
+    all_said l (flagged w f.0 f.1) (with_flag f.0 f.1 s) h.1 (then_flagged w f.0 f.1 (ltb-true f.0 49 (holds_is (ltb f.0 49) h.0)) e refl)
 
 module _ (x : Situation) where
   abbrev flags : List Flag
@@ -83,7 +83,7 @@ module _ (x : Situation) where
       rw (low_flag 0 (omega arith), low_flag 1 (omega arith), low_flag 2 (omega arith), low_flag 3 (omega arith), low_flag 4 (omega arith), low_flag 5 (omega arith), low_flag 6 (omega arith), low_flag 7 (omega arith), low_flag 8 (omega arith), low_flag 9 (omega arith), low_flag 10 (omega arith), low_flag 16 (omega arith), low_flag 17 (omega arith), low_flag 18 (omega arith), low_flag 19 (omega arith), low_flag 20 (omega arith), low_flag 21 (omega arith), low_flag 22 (omega arith), low_flag 23 (omega arith), low_flag 24 (omega arith), low_flag 25 (omega arith), low_flag 26 (omega arith), low_flag 32 (omega arith), low_flag 33 (omega arith), low_flag 34 (omega arith), low_flag 35 (omega arith), low_flag 36 (omega arith), low_flag 37 (omega arith), count)
 
 -- ---- they fit
-set_fits : (n m : ℕ) → n ≤ most_sections → T (sections_up_to n m) → m < 2 ^ 64
+set_fits : (n m : ℕ) → n < 49 → T (sections_up_to n m) → m < 2 ^ 64
 set_fits n m h t =
     let up : n + 1 ≤ 64 = omega arith in
     lt_of_lt_of_le (below_of m (n + 1) (eqb→eq (m / 2 ^ (n + 1)) 0 (and_at (not (0 belongs_to m)) (eqb (m / 2 ^ (n + 1)) 0) t).1)) (pow_mono up)
@@ -93,7 +93,7 @@ unfolding words
 has_words p plan x t =
     let s = parts p x t in
     let n : ℕ = p.sections in
-    let short : n ≤ most_sections = plan_short p plan in
+    let short : n < 49 = plan_short p plan in
     let sets = and_at (sections_up_to n x.traffic.track.occupied and held_sound p x TowardsB) (held_sound p x TowardsA) s.sets in
     let first = and_at (sections_up_to n x.traffic.track.occupied) (held_sound p x TowardsB) sets.0 in
     let b = and_at (sections_up_to n (held x TowardsB)) (not (first_section p (entrance TowardsB) belongs_to held x TowardsB)) first.1 in

@@ -1,23 +1,24 @@
 // The situation's record, read into a situation and written from one.
-ghost use Rattle.std.specs.Prelude.{◌≡◌, true, ◌+◌, ◌*◌, ◌≤◌, leb, length, get_or};
+ghost use Rattle.std.specs.Prelude.{◌≡◌, ◌≤◌, leb, length, take, get_or};
 ghost use Rattle.words.specs.Words.{◌and◌};
 ghost use Rattle.situation.specs.Packed.{unpacked};
-ghost use Rattle.records.specs.Situation.{bits, in_range, no_situation, codes_of, situation_of, situation};
-ghost use Rattle.records.specs.InBytes.{codes_at, field_width, both_zero, has_watch, situation_letters, front_bytes, fields_bytes, watch_bytes, situation_size};
+ghost use Rattle.records.specs.Situation.{bits, in_range, no_situation, codes_of, situation_of};
+ghost use Rattle.records.specs.InBytes.{codes_at, both_zero, situation_letters, situation_size, situation_bytes};
 ghost use Rattle.forms.specs.Form.{laid};
 ghost use Rattle.situations.specs.InWords.{bits_word, codes_word, line_word, flags_word, in_words};
 
 use block::codes::Pending;
-use block::line::{Direction, Plan};
+use block::line::Direction;
 use forms::Letters;
-use records::field::{put_field, section_field};
-use records::plan::{field_width, is_long};
-use records::situation::{SI, SJ, SK};
+use records::field::{low_byte, section_field};
+use records::situation::{SI, SI_SIZE, SJ, SJ_SIZE};
 use situation::{Signals, Situation};
 use words::flag;
 
-// Where the section fields begin, after the letters and the codes.
-const FIELDS: usize = 15;
+// Where an SJ has its mark and its count.
+const MARK: usize = 21;
+
+const COUNT: usize = 22;
 
 // A station's bits: BILC, BSLG, reminder, a pending SOBB.
 fn bits_word(bilc: u8, bslg: u8, reminder: u8, asks: u8) -> u64
@@ -57,38 +58,37 @@ fn byte_or_zero(s: &[u8], at: usize) -> u8
     0
 }
 
-// The link, and of an SJ or SK its mark and its count, after three fields of so many bytes.
-fn line_in(si: &[u8], width: usize) -> u64
-    requires { (width ≤ 7) × (15 + 3 * width ≤ length si.now) }
-    ensures { (result ≡ line_word (get_or si.now 2 0) (get_or si.now (15 + 3 * width) 0) (get_or si.now (15 + 3 * width + 1) 0)) × (result ≤ 1785) }
+// The link, and of an SJ its mark and its count.
+fn line_in(si: &[u8]) -> u64
+    requires { 21 ≤ length si.now }
+    ensures { (result ≡ line_word (get_or si.now 2 0) (get_or si.now 21 0) (get_or si.now 22 0)) × (result ≤ 1785) }
 {
-    let mark = FIELDS + 3 * width;
-    if si.len() <= mark {
+    if si.len() <= MARK {
         return line_word(si[2], 0, 0);
     }
-    line_word(si[2], si[mark], byte_or_zero(si, mark + 1))
+    line_word(si[2], si[MARK], byte_or_zero(si, COUNT))
 }
 
-fn flags_in(si: &[u8], width: usize) -> u64
-    requires { (width ≤ 7) × (15 + 3 * width ≤ length si.now) }
-    ensures { result ≡ (in_words (codes_at width si.now)).flags }
+fn flags_in(si: &[u8]) -> u64
+    requires { 21 ≤ length si.now }
+    ensures { result ≡ (in_words (codes_at si.now)).flags }
 {
     let bits = bits_word(si[12] % 2, si[13] % 2, si[14] % 2, si[11] % 2);
     let own = station_word(si[3], si[5], si[7], si[9], bits);
     let bits = bits_word(si[12] / 2, si[13] / 2, si[14] / 2, si[11] / 2);
     let other = station_word(si[4], si[6], si[8], si[10], bits);
-    flags_word(own, other, line_in(si, width))
+    flags_word(own, other, line_in(si))
 }
 
-fn decoded(si: &[u8], width: usize) -> Situation
-    requires { (width ≤ 7) × (15 + 3 * width ≤ length si.now) }
-    ensures { result ≡ in_words (codes_at width si.now) }
+fn decoded(si: &[u8]) -> Situation
+    requires { 21 ≤ length si.now }
+    ensures { result ≡ in_words (codes_at si.now) }
 {
-    let flags = flags_in(si, width);
-    let occupied = 2 * section_field(si, FIELDS, width);
+    let flags = flags_in(si);
+    let occupied = 2 * section_field(si, 15, 2);
     let signals = Signals {
-        heldb: 2 * section_field(si, FIELDS + width, width),
-        helda: 2 * section_field(si, FIELDS + 2 * width, width),
+        heldb: 2 * section_field(si, 17, 2),
+        helda: 2 * section_field(si, 19, 2),
     };
     Situation {
         flags,
@@ -97,22 +97,21 @@ fn decoded(si: &[u8], width: usize) -> Situation
     }
 }
 
-// Of an SJ or SK: a mark of 0 or 1, a count of 0 to 10.
-fn watch_in_range(si: &[u8], width: usize) -> bool
-    requires { (width ≤ 7) × (15 + 3 * width ≤ length si.now) }
-    ensures { result ≡ (leb (get_or si.now (15 + 3 * width) 0) 1 and leb (get_or si.now (15 + 3 * width + 1) 0) 10) }
+// Of an SJ: a mark of 0 or 1, a count of 0 to 10.
+fn watch_in_range(si: &[u8]) -> bool
+    requires { 21 ≤ length si.now }
+    ensures { result ≡ (leb (get_or si.now 21 0) 1 and leb (get_or si.now 22 0) 10) }
 {
-    let mark = FIELDS + 3 * width;
-    if si.len() <= mark {
+    if si.len() <= MARK {
         return true;
     }
-    (si[mark] <= 1) & (byte_or_zero(si, mark + 1) <= 10)
+    (si[MARK] <= 1) & (byte_or_zero(si, COUNT) <= 10)
 }
 
 // The first eight codes, then the others.
-fn in_range(si: &[u8], width: usize) -> bool
-    requires { (width ≤ 7) × (15 + 3 * width ≤ length si.now) }
-    ensures { result ≡ in_range (codes_at width si.now) }
+fn in_range(si: &[u8]) -> bool
+    requires { 21 ≤ length si.now }
+    ensures { result ≡ in_range (codes_at si.now) }
 {
     let first = (si[2] <= 1)
         & (si[3] <= 2)
@@ -123,7 +122,7 @@ fn in_range(si: &[u8], width: usize) -> bool
         & (si[8] <= 2)
         & (si[9] <= 1);
     if first {
-        let watch = watch_in_range(si, width);
+        let watch = watch_in_range(si);
         return (si[10] <= 1)
             & (si[11] <= 2)
             & (si[12] <= 3)
@@ -146,14 +145,13 @@ fn no_situation() -> Situation
     }
 }
 
-// The situation that the record on a plan says, where the bytes are that record and nothing after it.
-pub fn situation_in(plan: Plan, si: &[u8]) -> Situation
-    requires { 15 + 3 * field_width plan ≤ length si.now }
-    ensures { unpacked result ≡ situation_of (codes_at (field_width plan) si.now) }
+// The situation that a record says; the bytes are the record and nothing after it.
+pub fn situation_in(si: &[u8]) -> Situation
+    requires { 21 ≤ length si.now }
+    ensures { unpacked result ≡ situation_of (codes_at si.now) }
 {
-    let width = field_width(plan);
-    if in_range(si, width) {
-        return decoded(si, width);
+    if in_range(si) {
+        return decoded(si);
     }
     no_situation()
 }
@@ -173,44 +171,35 @@ fn both_zero(x: Situation) -> bool
     !x.marked() & (count == 0)
 }
 
-// SK on a long plan; on a short one SI or SJ.
-fn letters_of(plan: Plan, x: Situation) -> Letters
-    ensures { result ≡ situation_letters plan (codes_of (unpacked x)) }
+fn letters_of(x: Situation) -> Letters
+    ensures { result ≡ situation_letters (codes_of (unpacked x)) }
 {
-    if is_long(plan) {
-        return SK;
-    }
     if both_zero(x) {
         return SI;
     }
     SJ
 }
 
-// Whether the record has mark and count: only SI leaves them out.
-fn has_watch(plan: Plan, x: Situation) -> bool
-    ensures { result ≡ has_watch plan (codes_of (unpacked x)) }
-{
-    let zero = both_zero(x);
-    is_long(plan) | !zero
-}
-
 // How many bytes the record of a situation has, with its letters.
-pub fn record_size(plan: Plan, x: Situation) -> usize
-    ensures { result ≡ situation_size plan (codes_of (unpacked x)) }
+pub fn record_size(x: Situation) -> usize
+    ensures { result ≡ situation_size (codes_of (unpacked x)) }
 {
-    let size = FIELDS + 3 * field_width(plan);
-    if has_watch(plan, x) {
-        return size + 2;
+    if both_zero(x) {
+        return SI_SIZE;
     }
-    size
+    SJ_SIZE
 }
 
-// The letters, and the codes before the section fields.
-fn front_of(letters: Letters, x: Situation) -> [u8; FIELDS]
-    ensures { result ≡ front_bytes letters (codes_of (unpacked x)) }
+// The record of a situation: as many of these bytes as it has.
+fn record_of(x: Situation) -> [u8; 23]
+    ensures { result ≡ situation_bytes (codes_of (unpacked x)) }
 {
+    let letters = letters_of(x);
     let own = x.own();
     let other = x.other();
+    let occupied = x.occupied / 2;
+    let heldb = x.held(Direction::TowardsB) / 2;
+    let helda = x.held(Direction::TowardsA) / 2;
     let pending = Pending {
         own: x.asks(),
         other: x.other_asks(),
@@ -231,44 +220,24 @@ fn front_of(letters: Letters, x: Situation) -> [u8; FIELDS]
         bits(own.has_bilc(), other.has_bilc()),
         bits(own.has_bslg(), other.has_bslg()),
         bits(own.has_reminder(), other.has_reminder()),
+        low_byte(occupied),
+        low_byte(occupied / 256),
+        low_byte(heldb),
+        low_byte(heldb / 256),
+        low_byte(helda),
+        low_byte(helda / 256),
+        flag(x.marked()),
+        x.count(),
     ]
 }
 
-// "Occupied, held towards B, held towards A", each of so many bytes.
-fn put_fields(x: Situation, width: usize, room: &mut [u8]) -> usize
-    requires { (width ≤ 7) × (3 * width ≤ length room.old) }
-    ensures value { result ≡ 3 * width }
-    ensures room_after { room.new ≡ laid (fields_bytes width (codes_of (unpacked x))) room.old }
-{
-    let at = put_field(x.occupied / 2, width, room);
-    let heldb = x.held(Direction::TowardsB) / 2;
-    let at = at + put_field(heldb, width, &mut room[at..]);
-    let helda = x.held(Direction::TowardsA) / 2;
-    at + put_field(helda, width, &mut room[at..])
-}
-
-// "The mark and the count added, a byte each", where the record has them.
-fn put_watch(plan: Plan, x: Situation, room: &mut [u8]) -> usize
-    requires { length (watch_bytes plan (codes_of (unpacked x))) ≤ length room.old }
-    ensures value { result ≡ length (watch_bytes plan (codes_of (unpacked x))) }
-    ensures room_after { room.new ≡ laid (watch_bytes plan (codes_of (unpacked x))) room.old }
-{
-    if has_watch(plan, x) {
-        let watch = [flag(x.marked()), x.count()];
-        return bytes::copy(&watch, room);
-    }
-    0
-}
-
 // The record is put at the front of a room, later bytes keep their values; returns how many bytes it has.
-pub fn put_situation(plan: Plan, x: Situation, room: &mut [u8]) -> usize
-    requires x_value { (situation plan).writes (codes_of (unpacked x)) ≡ true }
-    requires x_in_bounds { situation_size plan (codes_of (unpacked x)) ≤ length room.old }
-    ensures value { result ≡ situation_size plan (codes_of (unpacked x)) }
-    ensures room_after { room.new ≡ laid ((situation plan).written (codes_of (unpacked x))) room.old }
+pub fn put_situation(x: Situation, room: &mut [u8]) -> usize
+    requires { situation_size (codes_of (unpacked x)) ≤ length room.old }
+    ensures value { result ≡ situation_size (codes_of (unpacked x)) }
+    ensures room_after { room.new ≡ laid (take (situation_size (codes_of (unpacked x))) (situation_bytes (codes_of (unpacked x)))) room.old }
 {
-    let front = front_of(letters_of(plan, x), x);
-    let at = bytes::copy(&front, room);
-    let at = at + put_fields(x, field_width(plan), &mut room[at..]);
-    at + put_watch(plan, x, &mut room[at..])
+    let record = record_of(x);
+    let size = record_size(x);
+    bytes::copy(&record[..size], room)
 }

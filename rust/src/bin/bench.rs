@@ -30,8 +30,7 @@ use folvkin_compare::cases::from_hex;
 use folvkin_compare::generate::{self, Search};
 use folvkin_compare::interface::{EVENT_ROOM, Interface, Plain};
 use folvkin_compare::plain::key::{SLOT, START};
-use folvkin_compare::plain::line::MOST_SECTIONS;
-use folvkin_compare::plain::records::{LB, Letters, SI, SK};
+use folvkin_compare::plain::records::{LB, SI};
 use folvkin_compare::plain::{Edition, Line, Parts, Plan, Question, Situation};
 use folvkin_compare::random::Random;
 use folvkin_compare::told;
@@ -42,8 +41,6 @@ const LARGEST_READ: &str = "4c42100f53490100000000000000000000000000000000000045
 const ANNULLED: &str = "4c42050353490001020000000000000000010008000000000045560c040005000f001301130213031404160009000a02030111005244020300020103014c4e05";
 const SECONDS: &str = "4c420603534a01010200000000000000000000000000000000010245560c170013041404130614060e0110010e0010000101020011015244020500010401004c4e05";
 const OF_2012: &str = "4c4308040153490100000000000000000000000000000000000045560c03000400050006000700080009000a030b0303010a8513065244020300000301004c4e05";
-
-const LONG_LINE: &str = "4c423018534b010102000000000001000000000000000000c0000000008000000020000000000045560c142f14300e01010102000b9612011319141917000e000a965244040201010197020199020401014c4e05";
 
 /// Something to measure, with either implementation.
 trait Work {
@@ -237,7 +234,6 @@ impl Bench {
             ("annulled, two readings", ANNULLED),
             ("with seconds, two readings", SECONDS),
             ("of 2012, two readings", OF_2012),
-            ("48 sections, four readings", LONG_LINE),
         ] {
             let bytes = from_hex(text).expect("hex");
             let mut whole = WholeKey::new(bytes.clone());
@@ -255,13 +251,13 @@ impl Bench {
         self.head("Calls", "calls");
         let mut r = Random::new(1);
         self.line("plan", 65_536, &mut Plans);
-        let situations: Vec<Given<SI>> = (0..4096)
+        let situations: Vec<_> = (0..4096)
             .map(|_| {
-                let line = generate::short_line_of(&mut r, Edition::Of2024);
+                let line = generate::line_of(&mut r, Edition::Of2024);
                 Given::new(&mut r, &line)
             })
             .collect();
-        let count = situations.len() * TIMES;
+        let count = situations.len() * Given::TIMES;
         self.line("situation judged", count, &mut Situations(&situations));
         self.line("event, accepted or refused", count, &mut Events(&situations));
         let mut walk = Walk::new(&mut r);
@@ -292,8 +288,7 @@ impl Bench {
     }
 
     /// How the cost of a whole key grows with events, length and sections, and
-    /// that of aspects, an event and judging a situation with sections; how
-    /// that of a number with its size.
+    /// that of aspects with sections.
     fn growth(&self) {
         let largest = from_hex(LARGEST_READ).expect("hex");
         let parts = Parts::split(&largest).expect("a question");
@@ -327,10 +322,10 @@ impl Bench {
             [19, 2],
             [12, 0],
         ];
-        for sections in SHORT.into_iter().chain(LONG) {
+        for sections in [2, 4, 8, 12, 16] {
             let mut whole = WholeKey::of(Parts {
                 plan: Plan::new(Edition::Of2024, sections, sections / 2),
-                situation: Situation::FRESH,
+                situation: Situation::FRESH.to_bytes(),
                 events: &events,
                 readings: &[[1, 1, 0], [1, 129, 0], [4, 0, 0]],
                 length: 4,
@@ -339,8 +334,15 @@ impl Bench {
             self.line(&format!("{sections} sections"), sequences, &mut whole);
         }
         println!();
+        self.head("Aspects by sections", "calls");
         let mut r = Random::new(2);
-        self.by_sections(&mut r);
+        for n in [2, 4, 8, 12, 16] {
+            let line = Line::new(Plan::new(Edition::Of2024, n, n / 2)).expect("a plan");
+            let situations: Vec<_> = (0..2048).map(|_| Given::new(&mut r, &line)).collect();
+            let count = situations.len() * Given::TIMES;
+            self.line(&format!("{n} sections"), count, &mut AllAspects(&situations));
+        }
+        println!();
         self.head("Number marked by its size", "calls");
         let usual = -2..24;
         for power in [-127, -60, -30, -20, -15, -10, -6, -4].into_iter().chain(usual).chain([30, 60, 127]) {
@@ -349,45 +351,10 @@ impl Bench {
             self.line(&format!("from 2^{power}"), marks.len() * 4, &mut Marks(&marks));
         }
     }
-
-    /// Single calls on lines of 2 to 48 sections. The long ones have a
-    /// generator of their own, so that the others stay as they are.
-    fn by_sections(&self, r: &mut Random) {
-        let short = SHORT.map(|n| Given::<SI>::on(r, n));
-        let long = LONG.map(|n| Given::<SK>::on(&mut Random::new(n.into()), n));
-        self.head("Aspects by sections", "calls");
-        self.each_length(&short, AllAspects);
-        self.each_length(&long, AllAspects);
-        println!();
-        self.head("Event by sections", "calls");
-        self.each_length(&short, Events);
-        self.each_length(&long, Events);
-        println!();
-        self.head("Situation judged by sections", "calls");
-        self.each_length(&short, Situations);
-        self.each_length(&long, Situations);
-        println!();
-    }
-
-    /// A line for each of these lengths.
-    fn each_length<'a, const RECORD: usize, W: Work>(
-        &self,
-        lengths: &'a [Vec<Given<RECORD>>],
-        work: impl Fn(&'a [Given<RECORD>]) -> W,
-    ) {
-        for given in lengths {
-            let sections = given[0].plan[2];
-            self.line(&format!("{sections} sections"), given.len() * TIMES, &mut work(given));
-        }
-    }
 }
 
-/// The lines by whose sections the cost is shown.
-const SHORT: [u8; 5] = [2, 4, 8, 12, 16];
-const LONG: [u8; 4] = [17, 24, 32, 48];
-
 fn question_of_2024(r: &mut Random) -> Question {
-    let line = generate::short_line_of(r, Edition::Of2024);
+    let line = generate::line_of(r, Edition::Of2024);
     generate::question_on(r, Search::Any, line)
 }
 
@@ -477,40 +444,33 @@ fn plan_of_2024(line: &Line) -> [u8; LB] {
     *line.to_record().as_array().expect("LB")
 }
 
-/// A situation without the mark, whose record has `RECORD` bytes, and what is
-/// asked of it.
-struct Given<const RECORD: usize> {
+/// A situation and what is asked of it.
+struct Given {
     plan: [u8; LB],
-    situation: [u8; RECORD],
+    situation: [u8; SI],
     event: [u8; 2],
     reading: [u8; 2],
 }
 
-/// How often all situations are gone through in one round.
-const TIMES: usize = 4;
+impl Given {
+    /// How often all situations are gone through in one round.
+    const TIMES: usize = 4;
 
-impl<const RECORD: usize> Given<RECORD> {
-    /// Situations on a line of n sections.
-    fn on(r: &mut Random, n: u8) -> Vec<Given<RECORD>> {
-        let line = Line::new(Plan::new(Edition::Of2024, n, n / 2)).expect("a plan");
-        (0..2048).map(|_| Given::new(r, &line)).collect()
-    }
-
-    fn new(r: &mut Random, line: &Line) -> Given<RECORD> {
+    fn new(r: &mut Random, line: &Line) -> Given {
         let plan = plan_of_2024(line);
-        let situation = *generate::sound_or_reached(r, line).to_record(line).as_array().expect("its record");
+        let situation = *generate::sound_or_reached(r, line).to_record().as_array().expect("no mark");
         let event = generate::event(r, line).to_bytes();
         let reading = generate::reading(r, line);
         Given { plan, situation, event, reading }
     }
 }
 
-struct Situations<'a, const RECORD: usize>(&'a [Given<RECORD>]);
+struct Situations<'a>(&'a [Given]);
 
-impl<const RECORD: usize> Work for Situations<'_, RECORD> {
+impl Work for Situations<'_> {
     fn work<I: Interface>(&mut self) -> u64 {
         let mut sum = 0;
-        for _ in 0..TIMES {
+        for _ in 0..Given::TIMES {
             for given in self.0 {
                 sum += u64::from(I::situation(&given.plan, &given.situation));
             }
@@ -519,13 +479,13 @@ impl<const RECORD: usize> Work for Situations<'_, RECORD> {
     }
 }
 
-struct Events<'a, const RECORD: usize>(&'a [Given<RECORD>]);
+struct Events<'a>(&'a [Given]);
 
-impl<const RECORD: usize> Work for Events<'_, RECORD> {
+impl Work for Events<'_> {
     fn work<I: Interface>(&mut self) -> u64 {
         let mut room = [0; EVENT_ROOM];
         let mut sum = 0;
-        for _ in 0..TIMES {
+        for _ in 0..Given::TIMES {
             for given in self.0 {
                 sum += I::event(&given.plan, &given.situation, &given.event, &mut room);
                 sum += u64::from(room[3]) + u64::from(room[15]);
@@ -552,7 +512,7 @@ impl Walk {
 impl Work for Walk {
     fn work<I: Interface>(&mut self) -> u64 {
         let (mut before, mut after) = (&mut [0; EVENT_ROOM], &mut [0; EVENT_ROOM]);
-        let fresh = Letters::SI.record(&Situation::FRESH);
+        let fresh = Situation::FRESH.to_record();
         let mut length = fresh.len();
         before[..length].copy_from_slice(&fresh);
         let mut sum = 0;
@@ -569,13 +529,13 @@ impl Work for Walk {
     }
 }
 
-struct AllAspects<'a, const RECORD: usize>(&'a [Given<RECORD>]);
+struct AllAspects<'a>(&'a [Given]);
 
-impl<const RECORD: usize> Work for AllAspects<'_, RECORD> {
+impl Work for AllAspects<'_> {
     fn work<I: Interface>(&mut self) -> u64 {
-        let mut room = [0; 2 * MOST_SECTIONS as usize];
+        let mut room = [0; 32];
         let mut sum = 0;
-        for _ in 0..TIMES {
+        for _ in 0..Given::TIMES {
             for given in self.0 {
                 sum += u64::from(I::aspects(&given.plan, &given.situation, &mut room));
                 sum += u64::from(room[1]) + u64::from(room[2 * usize::from(given.plan[2]) - 2]);
@@ -585,12 +545,12 @@ impl<const RECORD: usize> Work for AllAspects<'_, RECORD> {
     }
 }
 
-struct Readings<'a, const RECORD: usize>(&'a [Given<RECORD>]);
+struct Readings<'a>(&'a [Given]);
 
-impl<const RECORD: usize> Work for Readings<'_, RECORD> {
+impl Work for Readings<'_> {
     fn work<I: Interface>(&mut self) -> u64 {
         let mut sum = 0;
-        for _ in 0..TIMES {
+        for _ in 0..Given::TIMES {
             for given in self.0 {
                 sum += u64::from(I::reading(&given.plan, &given.situation, &given.reading));
             }

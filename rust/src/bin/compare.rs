@@ -31,9 +31,8 @@ use folvkin_compare::interface::{EVENT_ROOM, Plain};
 use folvkin_compare::lent::Lent;
 use folvkin_compare::lent::Placed;
 use folvkin_compare::plain::key::{SLOT, START};
-use folvkin_compare::plain::line::{MOST_SECTIONS, Sections};
-use folvkin_compare::plain::records::{self, LC, Letters, SI, plan_record};
-use folvkin_compare::plain::situation::TEN_SECONDS;
+use folvkin_compare::plain::records::{self, LC, SI, SJ, plan_record};
+use folvkin_compare::plain::situation::{LENGTH, SHORT_LENGTH, TEN_SECONDS};
 use folvkin_compare::plain::{
     Edition, Event, Line, Parts, Plan, Question, Situation, aspects, events, readings,
 };
@@ -157,8 +156,8 @@ impl Tally {
 }
 
 /// What is counted of mark and count: what accepted events did to them, line
-/// readings that tell them, and records SJ and SK. Then the first rule: sections
-/// with one signal off red, and with both, which is never to be.
+/// readings that tell them, and records SJ. Then the first rule: sections with
+/// one signal off red, and with both, which is never to be.
 #[derive(Default)]
 struct Met {
     marks_set: u64,
@@ -167,36 +166,11 @@ struct Met {
     counts_stopped: u64,
     marks_cleared: u64,
     readings: u64,
-    sj: Written,
-    sk: Written,
+    written: u64,
+    accepted: u64,
+    both_zero: u64,
     clear_one_way: u64,
     clear_both_ways: u64,
-}
-
-/// What became of the records with some letters: how many were accepted and
-/// written, and how many with both zero were refused and accepted.
-#[derive(Default)]
-struct Written {
-    accepted: u64,
-    written: u64,
-    refused_zero: u64,
-    accepted_zero: u64,
-}
-
-impl Written {
-    fn count(&mut self, record: &[u8], refusal: u8) {
-        let is_zero = record.ends_with(&[0, 0]);
-        self.accepted += u64::from(refusal == 0);
-        self.accepted_zero += u64::from(refusal == 0 && is_zero);
-        self.refused_zero += u64::from(refusal == 20 && is_zero);
-    }
-}
-
-impl fmt::Display for Written {
-    fn fmt(&self, f: &mut fmt::Formatter) -> fmt::Result {
-        write!(f, "accepted {}, written {}, ", self.accepted, self.written)?;
-        write!(f, "with both zero accepted {}, refused {}", self.accepted_zero, self.refused_zero)
-    }
 }
 
 impl Met {
@@ -204,10 +178,9 @@ impl Met {
     fn count(&mut self, case: &Case, returned: u64, room: &[u8]) {
         let before = situation_of(case);
         let refusal = returned as u8;
-        match Letters::of_whole(before) {
-            Some(Letters::SJ) => self.sj.count(before, refusal),
-            Some(Letters::SK) => self.sk.count(before, refusal),
-            _ => {}
+        if before.starts_with(b"SJ") {
+            self.accepted += u64::from(refusal == 0);
+            self.both_zero += u64::from(refusal == 20 && before.len() == SJ && before.ends_with(&[0, 0]));
         }
         if refusal != 0 {
             return;
@@ -217,8 +190,7 @@ impl Met {
             Kind::Event => {
                 let after = &room[..told::Event::from(returned).length];
                 let [mark_after, count_after] = mark_and_count(after);
-                self.sj.written += u64::from(after.starts_with(b"SJ"));
-                self.sk.written += u64::from(after.starts_with(b"SK"));
+                self.written += u64::from(after.starts_with(b"SJ"));
                 match case.read[2][0] {
                     events::OCCUPIED => {
                         self.marks_set += u64::from(mark < mark_after);
@@ -248,8 +220,9 @@ impl fmt::Display for Met {
     fn fmt(&self, f: &mut fmt::Formatter) -> fmt::Result {
         write!(f, "mark set {}, cleared by an exit route {}; ", self.marks_set, self.marks_cleared)?;
         write!(f, "count started {}, ended {}, ", self.counts_started, self.counts_ended)?;
-        writeln!(f, "stopped by an occupation {}, read as line {}", self.counts_stopped, self.readings)?;
-        writeln!(f, "SJ {}; SK {}", self.sj, self.sk)?;
+        write!(f, "stopped by an occupation {}, read as line {}; ", self.counts_stopped, self.readings)?;
+        write!(f, "SJ accepted {}, written {}, ", self.accepted, self.written)?;
+        writeln!(f, "refused with both zero {}", self.both_zero)?;
         write!(f, "sections off red one way {}, ", self.clear_one_way)?;
         write!(f, "both ways {}", self.clear_both_ways)
     }
@@ -307,56 +280,6 @@ impl fmt::Display for Editions {
     }
 }
 
-/// What is counted of the lengths of plans: cases with a short and with a long
-/// one and how many of these were accepted, longer ones than there are, and
-/// whole records of situations that are not for a plan of this length.
-#[derive(Default)]
-struct Lengths {
-    short: u64,
-    short_accepted: u64,
-    long: u64,
-    long_accepted: u64,
-    too_long: u64,
-    sk_on_short: u64,
-    si_on_long: u64,
-    sj_on_long: u64,
-}
-
-impl Lengths {
-    fn count(&mut self, case: &Case, returned: u64) {
-        let Ok(plan) = records::plan(&mut { case.read[0] }) else { return };
-        let accepted = u64::from(returned as u8 == 0);
-        if plan.sections > MOST_SECTIONS {
-            self.too_long += 1;
-        } else if plan.is_long() {
-            self.long += 1;
-            self.long_accepted += accepted;
-        } else {
-            self.short += 1;
-            self.short_accepted += accepted;
-        }
-        match (Letters::of_whole(situation_of(case)), plan.is_long()) {
-            (Some(Letters::SK), false) => self.sk_on_short += 1,
-            (Some(Letters::SI), true) => self.si_on_long += 1,
-            (Some(Letters::SJ), true) => self.sj_on_long += 1,
-            _ => {}
-        }
-    }
-}
-
-impl fmt::Display for Lengths {
-    fn fmt(&self, f: &mut fmt::Formatter) -> fmt::Result {
-        write!(f, "cases up to 16 sections {} ({} accepted), ", self.short, self.short_accepted)?;
-        write!(
-            f,
-            "from 17 to 48 {} ({} accepted), above {}; ",
-            self.long, self.long_accepted, self.too_long
-        )?;
-        write!(f, "SK up to 16 {}, ", self.sk_on_short)?;
-        write!(f, "SI above 16 {}, SJ above 16 {}", self.si_on_long, self.sj_on_long)
-    }
-}
-
 /// Whether only the 2012 rules refuse an event so.
 fn is_by_2012(event: &[u8], refusal: u8) -> bool {
     let code = event.first().copied().unwrap_or(0);
@@ -377,19 +300,17 @@ fn stopped_at(case: &Case, place: u8) -> [u8; 2] {
 fn is_sound_by_2024(plan: Plan, mut situation: &[u8]) -> bool {
     let Ok(line) = Line::new(plan) else { return false };
     let line = line.under(Edition::Of2024);
-    records::situation(plan, &mut situation).is_ok_and(|situation| situation.is_sound(&line))
+    records::situation(&mut situation).is_ok_and(|body| Situation::read(&line, &body).is_ok())
 }
 
-/// What stands in the place of the situation's record, in a question as much
-/// as its letters ask for; nothing where the case has none.
+/// What stands in the place of the situation's record, with the bytes that
+/// follow it in a question; nothing where the case has none.
 fn situation_of<'a>(case: &Case<'a>) -> &'a [u8] {
     match case.kind {
         Kind::Plan | Kind::Mark => &[],
         Kind::Question | Kind::Key | Kind::Run => {
             let rest = &mut { case.read[0] };
-            let is_plan = records::plan(rest).is_ok();
-            let length = Letters::at(rest).filter(|_| is_plan).map_or(0, Letters::length);
-            &rest[..rest.len().min(length)]
+            if records::plan(rest).is_ok() { &rest[..rest.len().min(SJ)] } else { &[] }
         }
         Kind::Situation | Kind::Event | Kind::Aspects | Kind::Reading => case.read[1],
     }
@@ -398,7 +319,7 @@ fn situation_of<'a>(case: &Case<'a>) -> &'a [u8] {
 /// Mark and count of an accepted situation's record.
 fn mark_and_count(record: &[u8]) -> [u8; 2] {
     match *record {
-        [b'S', b'J' | b'K', .., mark, count] => [mark, count],
+        [b'S', b'J', .., mark, count] => [mark, count],
         _ => [0, 0],
     }
 }
@@ -496,7 +417,6 @@ struct Comparison {
     tallies: [Tally; Kind::ALL.len()],
     met: Met,
     editions: Editions,
-    lengths: Lengths,
     library: Caller,
     /// What the plain implementation's last call left in its room.
     plain: Vec<u8>,
@@ -540,7 +460,6 @@ impl Comparison {
             tallies: Default::default(),
             met: Met::default(),
             editions: Editions::default(),
-            lengths: Lengths::default(),
             library: Caller::new(),
             plain: Vec::with_capacity(LARGEST_ROOM),
             noise,
@@ -572,7 +491,6 @@ impl Comparison {
         self.tallies[case.kind as usize].count(case.kind, returned);
         self.met.count(&case, returned, &self.plain);
         self.editions.count(&case, returned);
-        self.lengths.count(&case, returned);
         self.call_library(&case, places, returned);
         returned
     }
@@ -646,7 +564,6 @@ impl Comparison {
             by_runs.stops.times_with(13, 0)
         );
         println!("{}", self.editions);
-        println!("{}", self.lengths);
         println!("{seconds:.1} s");
         println!("{} cases, {} differences", self.cases, self.differences());
     }
@@ -683,44 +600,30 @@ impl Comparison {
 
     fn sweeps(&mut self) {
         for edition in Edition::ALL {
-            let short = generate::short_line_of(&mut self.random, edition);
-            let long = generate::long_line_of(&mut self.random, edition);
-            self.plans_of(edition);
-            self.sweeps_on(&short);
-            self.sweeps_on(&long);
-            self.plans_and_records(edition);
-            self.section_bits(edition);
+            self.sweeps_of(edition);
         }
         self.last_bytes();
     }
 
     /// Of an edition every plan, and one event with every plan; every two
-    /// letters before a plan.
-    fn plans_of(&mut self, edition: Edition) {
+    /// letters; on a situation without the mark and on one on which the count
+    /// runs every event and every reading; every mark and count.
+    fn sweeps_of(&mut self, edition: Edition) {
         let line = generate::line_of(&mut self.random, edition);
         let plan = line.to_record();
-        let situation = generate::reached(&mut self.random, &line).to_record(&line);
+        let unmarked = generate::reached(&mut self.random, &line);
+        let counting = generate::counting(&mut self.random, &line);
         let room = self.room(EVENT_ROOM);
         for first in 0..=255 {
             for second in 0..=255 {
                 let any_plan = plan_record(Plan::new(edition, first, second));
                 self.check(Case::plan(&any_plan));
-                self.check(Case::event(&any_plan, &situation, &[events::DAFBL, 0], &room));
+                self.check(Case::event(&any_plan, &unmarked.to_record(), &[events::DAFBL, 0], &room));
                 self.check(Case::plan(&with_letters(&plan, [first, second])));
             }
         }
-    }
-
-    /// On a line every two letters before a situation's record; on a situation
-    /// without the mark and on one on which the count runs every event and
-    /// every reading; every mark and count.
-    fn sweeps_on(&mut self, line: &Line) {
-        let plan = line.to_record();
-        let unmarked = generate::reached(&mut self.random, line);
-        let counting = generate::counting(&mut self.random, line);
-        let room = self.room(EVENT_ROOM);
         for situation in [unmarked, counting] {
-            let situation = situation.to_record(line);
+            let situation = situation.to_record();
             for first in 0..=255 {
                 for second in 0..=255 {
                     self.check(Case::event(&plan, &situation, &[first, second], &room));
@@ -731,92 +634,43 @@ impl Comparison {
             self.lengths(&plan, &situation);
             self.event_rooms(&plan, &situation);
         }
-        self.marks_and_counts(line, counting);
-    }
-
-    /// Every n with some frontiers, and the records SI, SJ and SK on it, with
-    /// both zero and with a count, through all calls that take them. The events
-    /// and readings of the question are in range on every line.
-    fn plans_and_records(&mut self, edition: Edition) {
-        let least = Line::new(Plan::new(edition, 2, 1)).expect("a plan");
-        let question = generate::question_on(&mut self.random, Search::Small, least);
-        let counting = Situation { mark: 1, count: TEN_SECONDS, ..Situation::FRESH };
-        for n in 0..=255u8 {
-            for b in [1, n / 2, n.wrapping_sub(1), n] {
-                let plan = plan_record(Plan::new(edition, n, b));
-                for letters in Letters::ALL {
-                    self.record_on(&question, &plan, &letters.record(&Situation::FRESH));
-                    self.record_on(&question, &plan, &letters.record(&counting));
-                }
-            }
-        }
-    }
-
-    /// Through all calls that take a plan's record and a situation's.
-    fn record_on(&mut self, question: &Question, plan: &[u8], situation: &[u8]) {
-        let room = self.room(128);
-        self.check(Case::situation(plan, situation));
-        self.check(Case::event(plan, situation, &generate::SECOND.to_bytes(), &room));
-        self.check(Case::aspects(plan, situation, &room));
-        self.check(Case::reading(plan, situation, &[readings::LINE, 0]));
-        let bytes = generate::with_records(question, plan, situation);
-        self.check(Case::question(&bytes));
-        self.check(Case::key(&bytes, &START, &room));
-        self.check(Case::run(&bytes, &[0; SLOT]));
-    }
-
-    /// On lines of every length each bit of the three section fields alone,
-    /// also those that name no section or an exit signal.
-    fn section_bits(&mut self, edition: Edition) {
-        let room = self.room(128);
-        for n in 2..=MOST_SECTIONS {
-            let line = Line::new(Plan::new(edition, n, n / 2)).expect("a plan");
-            let plan = line.to_record();
-            for bit in 0..if line.plan().is_long() { 48 } else { 16 } {
-                let set: Sections = 1 << bit;
-                for situation in [
-                    Situation { occupied: set, ..Situation::FRESH },
-                    Situation { occupied: set, mark: 1, ..Situation::FRESH },
-                    Situation { held_towards_b: set, ..Situation::FRESH },
-                    Situation { held_towards_a: set, ..Situation::FRESH },
-                ] {
-                    let situation = situation.to_record(&line);
-                    self.check(Case::situation(&plan, &situation));
-                    self.check(Case::event(&plan, &situation, &[events::EXIT_NORMAL, 0], &room));
-                    self.check(Case::event(&plan, &situation, &[events::AFBLE_ORDER, 0], &room));
-                    self.check(Case::aspects(&plan, &situation, &room));
-                }
-            }
-        }
+        self.marks_and_counts(&plan, counting);
     }
 
     /// LC with every last byte, through all calls that take a plan; the same
     /// on a plan that is none.
     fn last_bytes(&mut self) {
         let question = generate::question_of_exclusions(&mut self.random, Search::Small);
-        let situation = question.situation().to_record(question.line());
+        let situation = question.situation().to_record();
         let plan = question.line().under(Edition::Of2012).to_record();
-        for sections in [plan[2], 0, MOST_SECTIONS + 1] {
+        let room = self.room(EVENT_ROOM);
+        for sections in [plan[2], 0] {
             for last in 0..=255 {
                 let plan = [b'L', b'C', sections, plan[3], last];
                 self.check(Case::plan(&plan));
-                self.record_on(&question, &plan, &situation);
+                self.check(Case::situation(&plan, &situation));
+                self.check(Case::event(&plan, &situation, &generate::SECOND.to_bytes(), &room));
+                self.check(Case::aspects(&plan, &situation, &room));
+                self.check(Case::reading(&plan, &situation, &[readings::LINE, 0]));
+                let bytes = generate::with_plan(&question, &plan);
+                self.check(Case::question(&bytes));
+                self.check(Case::key(&bytes, &START, &room));
+                self.check(Case::run(&bytes, &[0; SLOT]));
             }
         }
     }
 
     /// A second on every mark and count, with no section occupied, with one,
     /// and with an exit route.
-    fn marks_and_counts(&mut self, line: &Line, counting: Situation) {
-        let plan = line.to_record();
+    fn marks_and_counts(&mut self, plan: &[u8], counting: Situation) {
         let room = self.room(EVENT_ROOM);
-        let occupied = Situation { occupied: line.last(), ..counting };
+        let occupied = Situation { occupied: 1, ..counting };
         let route = Situation { exit: [1, 0], ..Situation::FRESH };
         for situation in [counting, occupied, route] {
             for mark in 0..=255 {
                 for count in 0..=255 {
-                    let record = Situation { mark, count, ..situation }.to_record_with_mark(line);
-                    self.check(Case::event(&plan, &record, &[events::SECOND, 0], &room));
+                    let record = Situation { mark, count, ..situation }.to_long_record();
+                    self.check(Case::event(plan, &record, &[events::SECOND, 0], &room));
                 }
             }
         }
@@ -894,7 +748,7 @@ impl Comparison {
             0 => self.random.index(129),
             1 => EVENT_ROOM - 1,
             2 => EVENT_ROOM + 1,
-            3 => self.random.pick(&Letters::ALL).length() - 1 + self.random.index(3),
+            3 => self.random.from(SI as u64 - 1, SJ as u64 + 1) as usize,
             _ => EVENT_ROOM,
         }
     }
@@ -902,7 +756,7 @@ impl Comparison {
     fn aspects_room_length(&mut self, line: &Line) -> usize {
         let needed = 2 * usize::from(line.sections());
         match self.random.below(4) {
-            0 => self.random.index(129),
+            0 => self.random.index(65),
             1 => needed - self.random.index(3),
             _ => needed + self.random.index(3),
         }
@@ -923,7 +777,7 @@ impl Comparison {
                 generate::unpaired(r, &line, paired)
             }
         };
-        let mut situation = from.to_record(&line).to_vec();
+        let mut situation = from.to_record().to_vec();
         let aspects_room = self.room(2 * usize::from(line.sections()));
         for _ in 0..12 {
             let r = &mut self.random;
@@ -956,7 +810,7 @@ impl Comparison {
         let r = &mut self.random;
         let line = generate::line(r);
         let plan = line.to_record();
-        let mut situation = generate::empty_line(r, &line).to_record(&line).to_vec();
+        let mut situation = generate::empty_line(r, &line).to_record().to_vec();
         for event in generate::stray_events(r, &line) {
             self.happen(&plan, &mut situation, event);
             self.check(Case::reading(&plan, &situation, &[readings::LINE, 0]));
@@ -973,8 +827,7 @@ impl Comparison {
     fn marked_line(&mut self) {
         let question = generate::question_in_time(&mut self.random, Search::Small);
         let bytes = generate::question_bytes(&question);
-        let (plan, situation) =
-            (question.line().to_record(), question.situation().to_record(question.line()));
+        let (plan, situation) = (question.line().to_record(), question.situation().to_record());
         let room = self.room(EVENT_ROOM);
         self.check(Case::event(&plan, &situation, &generate::SECOND.to_bytes(), &room));
         for section in 1..=question.line().sections() {
@@ -1002,8 +855,7 @@ impl Comparison {
     fn line_in_use(&mut self) {
         let question = generate::question_in_use(&mut self.random);
         let bytes = generate::question_bytes(&question);
-        let (plan, situation) =
-            (question.line().to_record(), question.situation().to_record(question.line()));
+        let (plan, situation) = (question.line().to_record(), question.situation().to_record());
         let room = self.room(EVENT_ROOM);
         for code in generate::MET {
             for station in 0..2 {
@@ -1029,7 +881,7 @@ impl Comparison {
         for edition in Edition::ALL {
             let plan = line.under(edition).to_record();
             for situation in [paired, unpaired] {
-                self.exclusive_orders(&plan, &situation.to_record(&line), &signals);
+                self.exclusive_orders(&plan, &situation.to_record(), &signals);
             }
         }
         let question = generate::question_of_exclusions(&mut self.random, Search::Small);
@@ -1266,31 +1118,28 @@ impl Comparison {
         let asked = Asked::all(&line);
         // How many values each byte of a situation has.
         let values = [2u8, 3, 3, 3, 3, 3, 3, 2, 2, 3, 4, 4, 4, 4, 1, 2, 1, 2, 1];
-        let mut body = [0u8; SI - 2];
+        let mut body = [0u8; LENGTH];
         loop {
-            let mut record = [0; SI];
-            record[..2].copy_from_slice(b"SI");
-            record[2..].copy_from_slice(&body);
             // Bit 1 alone is a block signal towards B; towards A it is bit 0.
-            record[17] *= 2;
-            if self.ask_if_sound(&plan, &record, &asked) {
-                let situation = records::situation(line.plan(), &mut &record[..]).expect("its record");
-                self.with_marks(&line, situation, &asked);
+            let mut bytes = body;
+            bytes[15] *= 2;
+            let situation = Situation::from_bytes(&bytes);
+            if self.ask_if_sound(&plan, &situation.to_record(), &asked) {
+                self.with_marks(&plan, situation, &asked);
             }
             // The next combination.
-            let Some(at) = (0..body.len()).find(|&at| body[at] + 1 < values[at]) else { break };
+            let Some(at) = (0..SHORT_LENGTH).find(|&at| body[at] + 1 < values[at]) else { break };
             body[..at].fill(0);
             body[at] += 1;
         }
     }
 
     /// Every mark and count in range on a situation that is sound without them.
-    fn with_marks(&mut self, line: &Line, unmarked: Situation, asked: &Asked) {
-        let plan = line.to_record();
+    fn with_marks(&mut self, plan: &[u8], unmarked: Situation, asked: &Asked) {
         for mark in 0..=1 {
             for count in 0..=TEN_SECONDS {
                 let situation = Situation { mark, count, ..unmarked };
-                self.ask_if_sound(&plan, &situation.to_record_with_mark(line), asked);
+                self.ask_if_sound(plan, &situation.to_long_record(), asked);
             }
         }
     }

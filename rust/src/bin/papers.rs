@@ -35,7 +35,6 @@ use std::process::ExitCode;
 use folvkin_compare::cases::{from_hex, hex};
 use folvkin_compare::generate;
 use folvkin_compare::plain::keytext::{key_text, whole_key};
-use folvkin_compare::plain::line::{MOST_SECTIONS, MOST_SHORT, Sections, section_bit};
 use folvkin_compare::plain::refusal::number;
 use folvkin_compare::plain::{Edition, Parts, Plan, Question, Situation};
 use folvkin_compare::random::Random;
@@ -162,14 +161,9 @@ impl Description {
     }
 
     fn to_bytes(&self) -> Result<Vec<u8>, String> {
-        let plan = self.plan.ok_or("a description has a plan")?;
-        let s = &self.situation;
-        if !plan.is_long() && (s.occupied | s.held_towards_b | s.held_towards_a) >> MOST_SHORT != 0 {
-            return Err(format!("the situation of {} sections has no field above 16", plan.sections));
-        }
         let parts = Parts {
-            plan,
-            situation: self.situation,
+            plan: self.plan.ok_or("a description has a plan")?,
+            situation: self.situation.to_bytes(),
             events: &self.events,
             readings: &self.readings,
             length: self.length,
@@ -211,8 +205,8 @@ fn set_field(situation: &mut Situation, field: &str) -> Result<(), String> {
         Ok([number_of(a)?, number_of(b)?])
     };
     let bit = |section: u8| {
-        if (1..=MOST_SECTIONS).contains(&section) {
-            Ok(section_bit(section))
+        if (1..=16).contains(&section) {
+            Ok(1 << (section - 1))
         } else {
             Err(format!("{section} is no section"))
         }
@@ -265,17 +259,16 @@ fn description(parts: &Parts) -> String {
         1 => "B".to_string(),
         other => other.to_string(),
     };
-    let members = |set: Sections, added: u8| {
-        (1..=MOST_SECTIONS).filter(move |&k| set & section_bit(k) != 0).map(move |k| k + added)
-    };
+    let members =
+        |set: u16, added: u8| (1..=16).filter(move |k| set >> (k - 1) & 1 == 1).map(move |k| k + added);
     let sum = |members: Vec<u8>| members.iter().map(u8::to_string).collect::<Vec<_>>().join("+");
     let Plan { edition, sections, frontier } = parts.plan;
     let edition = match edition {
         Edition::Of2024 => "",
         Edition::Of2012 => " 2012",
     };
-    let s = &parts.situation;
-    let mut text = format!("plan {sections} {frontier}{edition}; situation link={}", s.link);
+    let mut text = format!("plan {sections} {frontier}{edition}; situation link={}", parts.situation[0]);
+    let s = Situation::from_bytes(&parts.situation);
     for (name, [a, b]) in
         [("orientation", s.orientation), ("annulment", s.annulment), ("exit", s.exit), ("entry", s.entry)]
     {
@@ -346,7 +339,7 @@ fn search(seed: u64, tries: u64) {
         events.push(other_event(&mut r, &events));
     }
     let paper = |start: &Situation, events: &[[u8; 2]], readings: &[[u8; 3]], length: u8| {
-        Parts { plan: line.plan(), situation: *start, events, readings, length }
+        Parts { plan: line.plan(), situation: start.to_bytes(), events, readings, length }
             .accept()
             .expect("a paper in range")
     };

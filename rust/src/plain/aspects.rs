@@ -1,7 +1,7 @@
 //! Aspects of all signals at once: a set of the signals that are not red and
 //! one of those that are green, for each direction.
 
-use super::line::{A, B, Sections, TOWARDS_A, section_bit};
+use super::line::{A, B, TOWARDS_A};
 use super::situation::{IN, OUT};
 use super::{Line, Situation};
 
@@ -12,14 +12,14 @@ pub const GREEN: u8 = 2;
 /// One direction's signals, bit k-1 for the signal of section k.
 #[derive(Clone, Copy, Debug, PartialEq, Eq)]
 pub struct Direction {
-    not_red: Sections,
-    green: Sections,
+    not_red: u16,
+    green: u16,
 }
 
 impl Direction {
     #[inline]
     pub fn aspect(&self, section: u8) -> u8 {
-        let bit = section.wrapping_sub(1) & 63;
+        let bit = section.wrapping_sub(1) & 15;
         (self.not_red >> bit & 1) as u8 + (self.green >> bit & 1) as u8
     }
 }
@@ -60,7 +60,7 @@ pub fn aspect(line: &Line, situation: &Situation, signal: u8) -> u8 {
 /// The signals that are not red where trains run from `from`, whose exit
 /// signal is `exit_signal`.
 #[inline]
-fn not_red(line: &Line, s: &Situation, from: usize, exit_signal: Sections, held: Sections) -> Sections {
+fn not_red(line: &Line, s: &Situation, from: usize, exit_signal: u16, held: u16) -> u16 {
     let to = from ^ 1;
     let mut signals = 0;
     if s.area_direction(from) == OUT {
@@ -89,7 +89,7 @@ fn towards_b(line: &Line, s: &Situation) -> Direction {
     // "A next signal across the frontier is read as red when link is down":
     // that is the next of b.
     if s.link == 0 {
-        next &= !section_bit(line.frontier());
+        next &= !(1 << (line.frontier() - 1));
     }
     Direction { not_red, green: not_red & next }
 }
@@ -104,7 +104,7 @@ fn towards_a(line: &Line, s: &Situation) -> Direction {
     }
     // Across the frontier: the next of b+1.
     if s.link == 0 {
-        next &= !section_bit(line.frontier() + 1);
+        next &= !(1 << line.frontier());
     }
     Direction { not_red, green: not_red & next }
 }

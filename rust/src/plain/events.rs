@@ -1,6 +1,6 @@
 //! "Checks run in the order written; the first that fails gives the refusal."
 
-use super::line::{A, B, Sections, TOWARDS_A, section_bit};
+use super::line::{A, B, TOWARDS_A};
 use super::situation::{AFBLE, AFBLI, IN, NONE, NORMAL, OUT, SPECIAL, TEN_SECONDS};
 use super::{Line, Refusal, Refused, Situation};
 
@@ -328,7 +328,7 @@ impl Situation {
 
     /// The set that holds the signal, and the signal's bit.
     #[inline]
-    fn held(&mut self, signal: u8) -> (&mut Sections, Sections) {
+    fn held(&mut self, signal: u8) -> (&mut u16, u16) {
         let bit = section_bit(signal & !TOWARDS_A);
         if signal < TOWARDS_A { (&mut self.held_towards_b, bit) } else { (&mut self.held_towards_a, bit) }
     }
@@ -338,6 +338,12 @@ impl Situation {
 #[inline]
 fn asked_by(station: usize) -> u8 {
     station as u8 + 1
+}
+
+/// Bit k-1 for section k, 1 to 16.
+#[inline]
+fn section_bit(section: u8) -> u16 {
+    1 << (section.wrapping_sub(1) & 15)
 }
 
 #[inline]

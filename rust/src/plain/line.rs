@@ -1,6 +1,6 @@
 //! "A plan has n sections, 2 to 16, numbered from A, and a frontier b, 1 to
-//! n-1. Sections 1..b are A's area, the others B's." By request 06 n is up to
-//! 48. A plan names the edition of the rules that it is for.
+//! n-1. Sections 1..b are A's area, the others B's." It names the edition of
+//! the rules that it is for.
 
 use super::Refusal;
 
@@ -11,22 +11,6 @@ pub const B: usize = 1;
 
 /// Added to a section's number to name its signal towards A.
 pub const TOWARDS_A: u8 = 128;
-
-/// "New trunk plans need n up to 48."
-pub const MOST_SECTIONS: u8 = 48;
-
-/// "Plans of up to sixteen sections keep their present records."
-pub const MOST_SHORT: u8 = 16;
-
-/// A set of sections, or of the signals of one direction: bit k-1 for section
-/// k.
-pub type Sections = u64;
-
-/// The set of one section.
-#[inline]
-pub fn section_bit(section: u8) -> Sections {
-    1 << (section.wrapping_sub(1) & 63)
-}
 
 /// "Record LC is LB with one byte more, always 1, for the 2012 rules; LB means
 /// 2024."
@@ -60,12 +44,6 @@ impl Plan {
     pub fn new(edition: Edition, sections: u8, frontier: u8) -> Plan {
         Plan { edition, sections, frontier }
     }
-
-    /// "Longer ones use SK only": by n alone, whether or not it is a plan.
-    #[inline]
-    pub fn is_long(&self) -> bool {
-        self.sections > MOST_SHORT
-    }
 }
 
 /// A plan that has been accepted.
@@ -73,18 +51,18 @@ impl Plan {
 pub struct Line {
     plan: Plan,
     /// The sections of A and of B.
-    areas: [Sections; 2],
+    areas: [u16; 2],
 }
 
 impl Line {
     #[inline]
     pub fn new(plan: Plan) -> Result<Line, Refusal> {
         let Plan { sections, frontier, .. } = plan;
-        if !(2..=MOST_SECTIONS).contains(&sections) || frontier < 1 || frontier >= sections {
+        if !(2..=16).contains(&sections) || frontier < 1 || frontier >= sections {
             return Err(Refusal::Plan);
         }
-        let all = !0 >> (Sections::BITS - u32::from(sections));
-        let area_a = !0 >> (Sections::BITS - u32::from(frontier));
+        let all = (!0u16) >> (16 - sections);
+        let area_a = (!0u16) >> (16 - frontier);
         Ok(Line { plan, areas: [area_a, all & !area_a] })
     }
 
@@ -115,20 +93,20 @@ impl Line {
 
     /// All sections.
     #[inline]
-    pub fn all(&self) -> Sections {
+    pub fn all(&self) -> u16 {
         self.areas[A] | self.areas[B]
     }
 
     /// The sections of a station's area.
     #[inline]
-    pub fn area(&self, station: usize) -> Sections {
+    pub fn area(&self, station: usize) -> u16 {
         self.areas[station]
     }
 
     /// The section next to B, as a set: B's first one.
     #[inline]
-    pub fn last(&self) -> Sections {
-        section_bit(self.sections())
+    pub fn last(&self) -> u16 {
+        1 << (self.sections() - 1)
     }
 
     /// "Station A's first section (1AD) is 1, B's is n."

@@ -1,5 +1,5 @@
-//! Document 01 with requests 01, 02, 05 and 06 of document 02, written from the
-//! documents alone. Codes are bytes, sets of sections are `u64` with bit k-1
+//! Document 01 with requests 01, 02 and 05 of document 02, written from the
+//! documents alone. Codes are bytes, sets of sections are `u16` with bit k-1
 //! for section k, nothing allocates except the key's text.
 
 pub mod aspects;

@@ -1,7 +1,6 @@
 //! A question: five records, each after its two letters, in one byte form.
 
-use super::records::{self, Letters};
-use super::{Event, Line, Plan, Reading, Refusal, Situation};
+use super::{Event, Line, Plan, Reading, Refusal, Situation, records, situation};
 
 pub const MOST_EVENTS: usize = 12;
 pub const MOST_READINGS: usize = 6;
@@ -11,8 +10,7 @@ pub const MOST_LENGTH: u8 = 5;
 #[derive(Clone, Copy, Debug)]
 pub struct Parts<'a> {
     pub plan: Plan,
-    /// In range or not. (A short plan's record has room for sixteen sections.)
-    pub situation: Situation,
+    pub situation: [u8; situation::LENGTH],
     pub events: &'a [[u8; 2]],
     pub readings: &'a [[u8; 3]],
     pub length: u8,
@@ -31,15 +29,14 @@ pub struct Question {
 }
 
 /// Whether an event is listed twice, of events in range: codes up to 23,
-/// arguments up to 48 and, of codes 10 and 11 alone, from 129 to 176.
+/// arguments up to 16 or from 129 to 144.
 #[inline]
 fn lists_twice(events: &[[u8; 2]]) -> bool {
-    // For each code the arguments seen, one bit each. Those from 129 on stand
-    // at 26 and 27, which are no codes.
+    // For each code the arguments seen, one bit each.
     let mut seen = [0u64; 32];
     events.iter().any(|&[code, argument]| {
-        let bit = 1 << (argument & 63);
-        let arguments = &mut seen[usize::from((code ^ argument >> 7 << 4) & 31)];
+        let bit = 1 << (argument & 31 | argument >> 7 << 5);
+        let arguments = &mut seen[usize::from(code & 31)];
         let twice = *arguments & bit != 0;
         *arguments |= bit;
         twice
@@ -48,13 +45,12 @@ fn lists_twice(events: &[[u8; 2]]) -> bool {
 
 impl<'a> Parts<'a> {
     /// 20: "a wrong mark, bytes missing or left over, an EV or RD count out of
-    /// range", SJ with both zero, another last byte in LC, a record that is not
-    /// for a plan of this length.
+    /// range", SJ with both zero, another last byte in LC.
     #[inline]
     pub fn split(bytes: &'a [u8]) -> Result<Parts<'a>, Refusal> {
         let rest = &mut { bytes };
         let plan = records::plan(rest)?;
-        let situation = records::situation(plan, rest)?;
+        let situation = records::situation(rest)?;
         records::letters(rest, b"EV")?;
         let &[count] = records::take(rest)?;
         if !(1..=MOST_EVENTS).contains(&usize::from(count)) {
@@ -80,7 +76,7 @@ impl<'a> Parts<'a> {
             return Err(Refusal::Form);
         }
         let line = Line::new(self.plan)?;
-        let situation = self.situation.judged(&line)?;
+        let situation = Situation::read(&line, &self.situation)?;
         let mut events = [Event { code: 0, argument: 0 }; MOST_EVENTS];
         for (event, &[code, argument]) in events.iter_mut().zip(self.events) {
             *event = Event { code, argument };
@@ -121,7 +117,7 @@ impl<'a> Parts<'a> {
     /// How many bytes the question takes.
     pub fn byte_length(&self) -> usize {
         let plan = records::plan_length(self.plan.edition);
-        let situation = Letters::of(self.plan, &self.situation).length();
+        let situation = records::situation_length(&self.situation);
         plan + situation + 3 + 2 * self.events.len() + 3 + 3 * self.readings.len() + 3
     }
 
@@ -134,7 +130,7 @@ impl<'a> Parts<'a> {
             at += bytes.len();
         };
         put(&records::plan_record(self.plan));
-        put(&Letters::of(self.plan, &self.situation).record(&self.situation));
+        put(&records::situation_record(&self.situation));
         put(b"EV");
         put(&[self.events.len() as u8]);
         put(self.events.as_flattened());
@@ -147,7 +143,7 @@ impl<'a> Parts<'a> {
 }
 
 impl Question {
-    #[inline(always)]
+    #[inline]
     pub fn read(bytes: &[u8]) -> Result<Question, Refusal> {
         Parts::split(bytes)?.accept()
     }
@@ -164,7 +160,7 @@ impl Question {
         }
         Parts {
             plan: self.line.plan(),
-            situation: self.situation,
+            situation: self.situation.to_bytes(),
             events: &events[..self.event_count],
             readings: &readings[..self.reading_count],
             length: self.length,

@@ -5,8 +5,7 @@
 
 use std::ops::Deref;
 
-use super::line::Sections;
-use super::situation::CODES;
+use super::situation::{LENGTH, SHORT_LENGTH};
 use super::{Edition, Line, Plan, Refusal, Situation};
 
 /// The length of record LB: its letters, n, b.
@@ -18,25 +17,11 @@ pub const LC: usize = LB + 1;
 /// That byte: "always 1".
 const LAST_OF_LC: u8 = 1;
 
-/// How many bytes a section field has: "two bytes, low byte first" in SI and
-/// SJ, "six bytes for each of the three section fields" in SK.
-const SHORT_FIELD: usize = 2;
-const LONG_FIELD: usize = 6;
-
-/// How many bytes codes and section fields have together: "SI, 19 bytes", and
-/// in SK.
-const SHORT_BODY: usize = CODES + 3 * SHORT_FIELD;
-const LONG_BODY: usize = CODES + 3 * LONG_FIELD;
-
 /// The length of record SI: its letters and 19 bytes.
-pub const SI: usize = 2 + SHORT_BODY;
+pub const SI: usize = 2 + SHORT_LENGTH;
 
 /// The length of record SJ: two bytes more, the mark and the count.
-pub const SJ: usize = SI + 2;
-
-/// The length of record SK: "SJ with six bytes for each of the three section
-/// fields".
-pub const SK: usize = 2 + LONG_BODY + 2;
+pub const SJ: usize = 2 + LENGTH;
 
 /// Takes `N` bytes off the front.
 #[inline]
@@ -86,57 +71,34 @@ pub fn plan(bytes: &mut &[u8]) -> Result<Plan, Refusal> {
     }
 }
 
-/// "SI, 19 bytes", or "SJ is SI with the mark and the count added", on a plan of
-/// up to sixteen sections, SK on a longer one: the situation, whatever its
-/// bytes are, but "20 for SJ with both zero" and "20 for SK on a short plan or
-/// SJ or SI on a long one".
+/// "SI, 19 bytes", or "SJ is SI with the mark and the count added": the
+/// situation's bytes, whatever they are, but "20 for SJ with both zero".
 #[inline]
-pub fn situation(plan: Plan, bytes: &mut &[u8]) -> Result<Situation, Refusal> {
-    let (codes, sections, mark_and_count) = match (take::<2>(bytes)?, plan.is_long()) {
-        (b"SI", false) => {
-            let (codes, sections) = body::<SHORT_FIELD>(take::<SHORT_BODY>(bytes)?);
-            (codes, sections, [0, 0])
+pub fn situation(bytes: &mut &[u8]) -> Result<[u8; LENGTH], Refusal> {
+    match take::<2>(bytes)? {
+        b"SI" => {
+            let mut body = [0; LENGTH];
+            body[..SHORT_LENGTH].copy_from_slice(take::<SHORT_LENGTH>(bytes)?);
+            Ok(body)
         }
-        (b"SJ", false) => {
-            let (codes, sections) = body::<SHORT_FIELD>(take::<SHORT_BODY>(bytes)?);
-            let &mark_and_count = take(bytes)?;
-            if mark_and_count == [0, 0] {
-                return Err(Refusal::Form);
-            }
-            (codes, sections, mark_and_count)
+        b"SJ" => {
+            let &body = take(bytes)?;
+            if is_short(&body) { Err(Refusal::Form) } else { Ok(body) }
         }
-        (b"SK", true) => {
-            let (codes, sections) = body::<LONG_FIELD>(take::<LONG_BODY>(bytes)?);
-            (codes, sections, *take(bytes)?)
-        }
-        _ => return Err(Refusal::Form),
-    };
-    Ok(Situation::new(codes, sections, mark_and_count))
-}
-
-/// Codes and section fields of `WIDTH` bytes each, in just as many bytes.
-#[inline(always)]
-fn body<const WIDTH: usize>(bytes: &[u8]) -> (&[u8; CODES], [Sections; 3]) {
-    let (codes, fields) = bytes.split_first_chunk().expect("a body");
-    (codes, std::array::from_fn(|index| field(&fields[index * WIDTH..][..WIDTH])))
-}
-
-/// The set in a section field: "low byte first, bit k-1 for section k".
-#[inline(always)]
-fn field(bytes: &[u8]) -> Sections {
-    let mut wide = [0; size_of::<Sections>()];
-    wide[..bytes.len()].copy_from_slice(bytes);
-    Sections::from_le_bytes(wide)
-}
-
-/// Writes such a body.
-#[inline(always)]
-fn write_body<const WIDTH: usize>(situation: &Situation, room: &mut [u8]) {
-    let (codes, fields) = room.split_first_chunk_mut().expect("room for a body");
-    *codes = situation.codes();
-    for (field, set) in fields.chunks_exact_mut(WIDTH).zip(situation.sections()) {
-        field.copy_from_slice(&set.to_le_bytes()[..WIDTH]);
+        _ => Err(Refusal::Form),
     }
+}
+
+/// "SI means both zero": mark and count.
+#[inline]
+fn is_short(body: &[u8; LENGTH]) -> bool {
+    body[SHORT_LENGTH..] == [0, 0]
+}
+
+/// How long the record of a situation is.
+#[inline]
+pub fn situation_length(body: &[u8; LENGTH]) -> usize {
+    if is_short(body) { SI } else { SJ }
 }
 
 /// Bytes that are exactly one record.
@@ -160,8 +122,8 @@ pub struct Record<const MOST: usize> {
 /// The record of a plan, LB or LC.
 pub type PlanRecord = Record<LC>;
 
-/// The record of a situation, SI, SJ or SK.
-pub type SituationRecord = Record<SK>;
+/// The record of a situation, SI or SJ.
+pub type SituationRecord = Record<SJ>;
 
 impl<const MOST: usize> Deref for Record<MOST> {
     type Target = [u8];
@@ -191,90 +153,34 @@ pub fn plan_record(plan: Plan) -> PlanRecord {
     Record { bytes: [b'L', letter, sections, frontier, last], length: plan_length(edition) }
 }
 
-/// The records of a situation, by their letters.
-#[derive(Clone, Copy, Debug, PartialEq, Eq)]
-pub enum Letters {
-    SI,
-    SJ,
-    SK,
+#[inline]
+pub fn situation_record(body: &[u8; LENGTH]) -> SituationRecord {
+    let mut bytes = [0; SJ];
+    let length = write_situation(body, &mut bytes);
+    Record { bytes, length }
 }
 
-impl Letters {
-    pub const ALL: [Letters; 3] = [Letters::SI, Letters::SJ, Letters::SK];
-
-    /// The letters at the front of the bytes, if they are those of such a
-    /// record.
-    pub fn at(bytes: &[u8]) -> Option<Letters> {
-        match bytes {
-            [b'S', b'I', ..] => Some(Letters::SI),
-            [b'S', b'J', ..] => Some(Letters::SJ),
-            [b'S', b'K', ..] => Some(Letters::SK),
-            _ => None,
-        }
+/// Writes the record of a situation: its length. Bytes after it keep their
+/// values.
+#[inline]
+pub fn write_situation(body: &[u8; LENGTH], room: &mut [u8]) -> usize {
+    if is_short(body) {
+        room[..2].copy_from_slice(b"SI");
+        room[2..SI].copy_from_slice(&body[..SHORT_LENGTH]);
+        SI
+    } else {
+        room[..SJ].copy_from_slice(&long_record(body));
+        SJ
     }
+}
 
-    /// The same of bytes that are as long as such a record.
-    pub fn of_whole(bytes: &[u8]) -> Option<Letters> {
-        Letters::at(bytes).filter(|letters| letters.length() == bytes.len())
-    }
-
-    /// Which record a situation has on a plan: "SI means both zero", and a long
-    /// plan has no other record than SK.
-    #[inline]
-    pub fn of(plan: Plan, situation: &Situation) -> Letters {
-        match [situation.mark, situation.count] {
-            [0, 0] if !plan.is_long() => Letters::SI,
-            _ => Letters::with_mark(plan),
-        }
-    }
-
-    /// The record of a plan that has mark and count in it.
-    #[inline]
-    pub fn with_mark(plan: Plan) -> Letters {
-        if plan.is_long() { Letters::SK } else { Letters::SJ }
-    }
-
-    /// How long the record is.
-    #[inline]
-    pub fn length(self) -> usize {
-        match self {
-            Letters::SI => SI,
-            Letters::SJ => SJ,
-            Letters::SK => SK,
-        }
-    }
-
-    /// Writes the record of a situation, whether or not it is the one that it
-    /// has: its length. Bytes after it keep their values.
-    #[inline]
-    pub fn write(self, situation: &Situation, room: &mut [u8]) -> usize {
-        let room = &mut room[..self.length()];
-        let mark_and_count = [situation.mark, situation.count];
-        match self {
-            Letters::SI => {
-                room[..2].copy_from_slice(b"SI");
-                write_body::<SHORT_FIELD>(situation, &mut room[2..]);
-            }
-            Letters::SJ => {
-                room[..2].copy_from_slice(b"SJ");
-                write_body::<SHORT_FIELD>(situation, &mut room[2..SI]);
-                room[SI..].copy_from_slice(&mark_and_count);
-            }
-            Letters::SK => {
-                room[..2].copy_from_slice(b"SK");
-                write_body::<LONG_FIELD>(situation, &mut room[2..SK - 2]);
-                room[SK - 2..].copy_from_slice(&mark_and_count);
-            }
-        }
-        self.length()
-    }
-
-    #[inline]
-    pub fn record(self, situation: &Situation) -> SituationRecord {
-        let mut bytes = [0; SK];
-        let length = self.write(situation, &mut bytes);
-        Record { bytes, length }
-    }
+/// The record SJ, also where both are zero.
+#[inline]
+pub fn long_record(body: &[u8; LENGTH]) -> [u8; SJ] {
+    let mut record = [0; SJ];
+    record[..2].copy_from_slice(b"SJ");
+    record[2..].copy_from_slice(body);
+    record
 }
 
 impl Line {
@@ -285,15 +191,14 @@ impl Line {
 }
 
 impl Situation {
-    /// Its record on a line.
     #[inline]
-    pub fn to_record(&self, line: &Line) -> SituationRecord {
-        Letters::of(line.plan(), self).record(self)
+    pub fn to_record(&self) -> SituationRecord {
+        situation_record(&self.to_bytes())
     }
 
-    /// Its record with mark and count, SJ or SK, also where both are zero.
+    /// Its record as SJ, also where both are zero.
     #[inline]
-    pub fn to_record_with_mark(&self, line: &Line) -> SituationRecord {
-        Letters::with_mark(line.plan()).record(self)
+    pub fn to_long_record(&self) -> [u8; SJ] {
+        long_record(&self.to_bytes())
     }
 }

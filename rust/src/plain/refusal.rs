@@ -39,8 +39,7 @@ pub enum Refusal {
     /// A signal of the own area is held, which the 2012 rules exclude.
     Bslb = 17,
     /// A wrong mark, bytes missing or left over, a count out of range, another
-    /// last byte in LC, SJ with both zero, a situation's record that is not for
-    /// a plan of this length.
+    /// last byte in LC.
     Form = 20,
     /// LN above 5, an event listed twice, a reading out of range.
     Listing = 21,

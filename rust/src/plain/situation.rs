@@ -1,6 +1,6 @@
 //! The situation, its bytes and when it is sound.
 
-use super::line::{A, B, Sections};
+use super::line::{A, B};
 use super::{Edition, Line, Refusal};
 
 pub const NONE: u8 = 0;
@@ -14,9 +14,12 @@ pub const AFBLE: u8 = 2;
 pub const NORMAL: u8 = 1;
 pub const SPECIAL: u8 = 2;
 
-/// How many bytes of codes a record of a situation has, before its section
-/// fields.
-pub const CODES: usize = 13;
+/// The length of record SI without its letters.
+pub const SHORT_LENGTH: usize = 19;
+
+/// The length of record SJ without its letters: "SI with the mark and the
+/// count added, a byte each". A situation's bytes are these.
+pub const LENGTH: usize = SHORT_LENGTH + 2;
 
 /// What the count starts at.
 pub const TEN_SECONDS: u8 = 10;
@@ -25,9 +28,9 @@ pub const TEN_SECONDS: u8 = 10;
 /// A and bit 1 for B.
 #[derive(Clone, Copy, Debug, PartialEq, Eq)]
 pub struct Situation {
-    pub occupied: Sections,
-    pub held_towards_b: Sections,
-    pub held_towards_a: Sections,
+    pub occupied: u16,
+    pub held_towards_b: u16,
+    pub held_towards_a: u16,
     pub link: u8,
     pub orientation: [u8; 2],
     pub annulment: [u8; 2],
@@ -62,13 +65,10 @@ impl Situation {
         count: 0,
     };
 
-    /// The fields as they stand in a record, in range or not: its codes, its
-    /// section fields (occupied, held towards B, held towards A), mark and
-    /// count.
+    /// The fields as they stand in the bytes, in range or not.
     #[inline]
-    pub fn new(codes: &[u8; CODES], sections: [Sections; 3], [mark, count]: [u8; 2]) -> Situation {
-        let s = codes;
-        let [occupied, held_towards_b, held_towards_a] = sections;
+    pub fn from_bytes(bytes: &[u8; LENGTH]) -> Situation {
+        let s = bytes;
         Situation {
             link: s[0],
             orientation: [s[1], s[2]],
@@ -79,16 +79,19 @@ impl Situation {
             bilc: s[10],
             bslg: s[11],
             reminder: s[12],
-            occupied,
-            held_towards_b,
-            held_towards_a,
-            mark,
-            count,
+            occupied: u16::from_le_bytes([s[13], s[14]]),
+            held_towards_b: u16::from_le_bytes([s[15], s[16]]),
+            held_towards_a: u16::from_le_bytes([s[17], s[18]]),
+            mark: s[19],
+            count: s[20],
         }
     }
 
     #[inline]
-    pub fn codes(&self) -> [u8; CODES] {
+    pub fn to_bytes(&self) -> [u8; LENGTH] {
+        let [o0, o1] = self.occupied.to_le_bytes();
+        let [b0, b1] = self.held_towards_b.to_le_bytes();
+        let [a0, a1] = self.held_towards_a.to_le_bytes();
         [
             self.link,
             self.orientation[A],
@@ -103,19 +106,22 @@ impl Situation {
             self.bilc,
             self.bslg,
             self.reminder,
+            o0,
+            o1,
+            b0,
+            b1,
+            a0,
+            a1,
+            self.mark,
+            self.count,
         ]
     }
 
-    /// The section fields.
+    /// The situation in the bytes, if it is sound.
     #[inline]
-    pub fn sections(&self) -> [Sections; 3] {
-        [self.occupied, self.held_towards_b, self.held_towards_a]
-    }
-
-    /// The situation, if it is sound.
-    #[inline]
-    pub fn judged(self, line: &Line) -> Result<Situation, Refusal> {
-        if self.is_sound(line) { Ok(self) } else { Err(Refusal::Situation) }
+    pub fn read(line: &Line, bytes: &[u8; LENGTH]) -> Result<Situation, Refusal> {
+        let situation = Situation::from_bytes(bytes);
+        if situation.is_sound(line) { Ok(situation) } else { Err(Refusal::Situation) }
     }
 
     /// "All codes are in range" and every set bit names a station, a section

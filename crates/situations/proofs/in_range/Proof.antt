@@ -1,4 +1,3 @@
-use Prim.Native.Nat.{◌+◌, ◌*◌}
 use mathlib.Core.Path.{◌≡◌, refl}
 use mathlib.Core.Bool.{Bool, true, false}
 use lib.Dec.{leb}
@@ -17,11 +16,9 @@ and_two false b c = refl
 returns : tie.Need-returns
 unfolding in_range codes_at
 returns c =
-    let a = c.before.before.before.before.before.before.before.before.before.before.before.before.before.before.before.before.args in
-    let s = a.si.now in
-    let mark = 15 + 3 * a.width in
+    let s = c.before.before.before.before.before.before.before.before.before.before.before.before.before.before.before.before.args.si.now in
     rw (c.before.before.before.before.before.watch-in-range.ensures, c.before.before.before.before.before.before.if1.true)
-    (and_two (leb (get_or s 10 0) 1 and leb (get_or s 11 0) 2 and leb (get_or s 12 0) 3 and leb (get_or s 13 0) 3 and leb (get_or s 14 0) 3) (leb (get_or s mark 0) 1) (leb (get_or s (mark + 1) 0) 10))
+    (and_two (leb (get_or s 10 0) 1 and leb (get_or s 11 0) 2 and leb (get_or s 12 0) 3 and leb (get_or s 13 0) 3 and leb (get_or s 14 0) 3) (leb (get_or s 21 0) 1) (leb (get_or s 22 0) 10))
 
 returns-2 : tie.Need-returns-2
 unfolding in_range codes_at

@@ -1,14 +1,16 @@
+use Prim.Native.Nat.{ℕ}
 use mathlib.Core.Path.{refl, sym, ap, ◌∙◌}
+use mathlib.Core.List.{List}
 use native.Mathlib.Omega.{arith}
 use borrow.Author.Rules.{rules}
-use lib.ListN.{length}
+use lib.ListN.{length, take}
 use Rattle.rulebook.specs.Situation.{Kept}
 use Rattle.rulebook.specs.Apply.{reached}
 use Rattle.rulebook.specs.Names.{name}
 use Rattle.forms.specs.Form.{laid}
 use Rattle.records.specs.Situation.{codes_of, situation}
-use Rattle.records.specs.InBytes.{situation_size}
-use Rattle.records.proofs.SituationForms.{size_between, size_is}
+use Rattle.records.specs.InBytes.{situation_size, situation_bytes}
+use Rattle.records.proofs.SituationForms.{size_between, size_is, bytes_are}
 use Rattle.situation.specs.Packed.{unpacked}
 use Rattle.folvkin.specs.Block.{record_after}
 use Rattle.folvkin.proofs.RoomLeft.{room_enough, record_fits}
@@ -28,11 +30,10 @@ put-situation-requires : tie.Need-put-situation-requires
 put-situation-requires c κs =
     let a = c.before.before.before.before.before.args in
     let t = sym c.before.before.before.tried_refusal.ensures ∙ c.before.before.if1.false in
-    let fits = record_fits a.plan (unpacked a.x) a.event (length a.room.now) t in
-    (rw c.before.next.ensures fits, omega (arith, room_enough a.plan (unpacked a.x) a.event (length a.room.now) t, (size_between a.plan (codes_of (unpacked c.before.next.result))).1))
+    omega (arith, room_enough a.plan (unpacked a.x) a.event (length a.room.now) t, (size_between (codes_of (unpacked c.before.next.result))).1)
 
 mul-result-2 : tie.Need-overflow-mul-result-2
-mul-result-2 c = omega (arith, c.before.before.put-situation.ensures.0, (size_between c.before.before.before.before.before.before.before.before.args.plan (codes_of (unpacked c.before.before.before.before.next.result))).1)
+mul-result-2 c = omega (arith, c.before.before.put-situation.ensures.0, (size_between (codes_of (unpacked c.before.before.before.before.next.result))).1)
 
 returns-2 : tie.Need-returns-2
 returns-2 c =
@@ -43,9 +44,9 @@ returns-2 c =
     let put = c.before.before.put-situation.ensures in
     let codes = codes_of (reached a.plan (unpacked a.x) a.event) in
     let fits = record_fits a.plan (unpacked a.x) a.event (length room) t in
-    let after = (situation a.plan).written codes in
-    let size = put.0 ∙ ap (λ (x : Kept). situation_size a.plan (codes_of x)) next ∙ sym (size_is a.plan codes fits) in
-    let left = put.1 ∙ ap (λ (x : Kept). laid ((situation a.plan).written (codes_of x)) room) next in
+    let after = situation.written codes in
+    let size = put.0 ∙ ap (λ (x : Kept). situation_size (codes_of x)) next ∙ sym (size_is codes fits) in
+    let left = put.1 ∙ ap (λ (x : Kept). laid (take (situation_size (codes_of x)) (situation_bytes (codes_of x))) room) next ∙ ap (λ (bytes : List ℕ). laid bytes room) (bytes_are codes fits) in
     (accepted_told t after (name a.plan (unpacked a.x) a.event) refl size, accepted_room t after room _ left)
 
 pub event-written-spec : {M : Type 1} → statement M

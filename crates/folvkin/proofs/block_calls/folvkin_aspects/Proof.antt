@@ -35,7 +35,7 @@ situation-in-requires : tie.Need-situation-in-requires
 situation-in-requires c κs =
     let ps = c.before.before.before.before.before.before.args.plan.now in
     let ss = c.before.before.before.before.before.before.args.situation.now in
-    (found ps ss (sym c.before.before.both_given.ensures ∙ not-false _ c.before.if1.false)).situation c.plan_in.ensures
+    (found ps ss (sym c.before.before.both_given.ensures ∙ not-false _ c.before.if1.false)).situation
 
 returns-2 : tie.Need-returns-2
 returns-2 c =

@@ -3,8 +3,9 @@ use borrow.Author.Rules.{rules}
 use Rattle.block.specs.Line.{plan_judged}
 use Rattle.forms.proofs.WholeTaken.{none_whole, more_than_whole, whole_there}
 use Rattle.records.proofs.RecordLaws.{plan_law}
-use Rattle.records.proofs.QuestionRead.{found_first, plan_long}
+use Rattle.records.proofs.QuestionRead.{found_first}
 use Rattle.records.proofs.InBytes.{plan_alone}
+use Rattle.paper.proofs.GivenThere.{plan_long}
 use Rattle.folvkin.proofs.block_calls.folvkin_plan.Statement.{statement}
 use Rattle.folvkin.proofs.block_calls.folvkin_plan.Tie as tie
 

@@ -31,7 +31,7 @@ situation-in-requires : tie.Need-situation-in-requires
 situation-in-requires c κs =
     let ps = c.before.before.before.before.before.before.before.args.plan.now in
     let ss = c.before.before.before.before.before.before.before.args.situation.now in
-    (found ps ss (sym c.before.before.before.both_given.ensures ∙ not-false _ c.before.before.if1.false)).situation c.plan_in.ensures
+    (found ps ss (sym c.before.before.before.both_given.ensures ∙ not-false _ c.before.before.if1.false)).situation
 
 returns-3 : tie.Need-returns-3
 returns-3 c =

@@ -39,7 +39,7 @@ situation-in-requires : tie.Need-situation-in-requires
 situation-in-requires c κs =
     let s = c.before.before.before.before.before.before.args.bytes.now in
     let i = is_one s _ c.before.before.before.before.where-laid.ensures (not-false _ c.before.before.if1.false) in
-    situation_long s _ i c.before.plan_in.ensures
+    situation_long s _ i
 
 returns-2 : tie.Need-returns-2
 returns-2 c =

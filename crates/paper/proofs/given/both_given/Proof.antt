@@ -2,8 +2,8 @@ use mathlib.Core.Path.{sym, ◌∙◌}
 use borrow.Author.Rules.{rules}
 use Rattle.forms.proofs.WholeTaken.{none_whole, more_than_whole, whole_there}
 use Rattle.records.proofs.RecordLaws.{plan_law, situation_law}
-use Rattle.records.proofs.QuestionRead.{found_first, plan_long}
-use Rattle.paper.proofs.GivenThere.{no_plan, no_situation, both_there, plan_whole}
+use Rattle.records.proofs.QuestionRead.{found_first}
+use Rattle.paper.proofs.GivenThere.{no_plan, no_situation, both_there}
 use Rattle.paper.proofs.given.both_given.Statement.{statement}
 use Rattle.paper.proofs.given.both_given.Tie as tie
 
@@ -16,31 +16,20 @@ returns-2 c =
     let ss = c.before.before.before.before.before.args.situation.now in
     no_plan ps ss (more_than_whole plan_law ps (found_first plan_law ps c.before.before.take-plan.ensures.0 c.before.if1.false) c.if2.true)
 
-plan-in-requires : tie.Need-plan-in-requires
-plan-in-requires c κs =
-    let ps = c.before.before.before.before.before.args.plan.now in
-    plan_long ps (found_first plan_law ps c.before.before.take-plan.ensures.0 c.before.if1.false)
-
 returns-3 : tie.Need-returns-3
-returns-3 c =
-    let ps = c.before.before.before.before.before.before.before.before.args.plan.now in
-    let ss = c.before.before.before.before.before.before.before.before.args.situation.now in
-    let p = plan_whole ps ss (found_first plan_law ps c.before.before.before.before.before.take-plan.ensures.0 c.before.before.before.before.if1.false) c.before.before.before.if2.false c.before.before.plan_in.ensures in
-    no_situation ps ss p (none_whole (situation_law _) ss (sym c.before.take-situation.ensures.0 ∙ c.if3.true))
+returns-3 c = no_situation _ _ (none_whole situation_law _ (sym c.before.take-situation.ensures.0 ∙ c.if3.true))
 
 returns-4 : tie.Need-returns-4
 returns-4 c =
-    let ps = c.before.before.before.before.before.before.before.before.before.args.plan.now in
-    let ss = c.before.before.before.before.before.before.before.before.before.args.situation.now in
-    let p = plan_whole ps ss (found_first plan_law ps c.before.before.before.before.before.before.take-plan.ensures.0 c.before.before.before.before.before.if1.false) c.before.before.before.before.if2.false c.before.before.before.plan_in.ensures in
-    no_situation ps ss p (more_than_whole (situation_law _) ss (found_first (situation_law _) ss c.before.before.take-situation.ensures.0 c.before.if3.false) c.if4.true)
+    let ps = c.before.before.before.before.before.before.before.before.args.plan.now in
+    let ss = c.before.before.before.before.before.before.before.before.args.situation.now in
+    no_situation ps ss (more_than_whole situation_law ss (found_first situation_law ss c.before.before.take-situation.ensures.0 c.before.if3.false) c.if4.true)
 
 returns-5 : tie.Need-returns-5
 returns-5 c =
-    let ps = c.before.before.before.before.before.before.before.before.before.args.plan.now in
-    let ss = c.before.before.before.before.before.before.before.before.before.args.situation.now in
-    let p = plan_whole ps ss (found_first plan_law ps c.before.before.before.before.before.before.take-plan.ensures.0 c.before.before.before.before.before.if1.false) c.before.before.before.before.if2.false c.before.before.before.plan_in.ensures in
-    both_there ps ss p (whole_there (situation_law _) ss (found_first (situation_law _) ss c.before.before.take-situation.ensures.0 c.before.if3.false) c.if4.false)
+    let ps = c.before.before.before.before.before.before.before.before.args.plan.now in
+    let ss = c.before.before.before.before.before.before.before.before.args.situation.now in
+    both_there ps ss (whole_there plan_law ps (found_first plan_law ps c.before.before.before.before.before.take-plan.ensures.0 c.before.before.before.before.if1.false) c.before.before.before.if2.false) (whole_there situation_law ss (found_first situation_law ss c.before.before.take-situation.ensures.0 c.before.if3.false) c.if4.false)
 
 pub both-given-spec : {M : Type 1} → statement M
-both-given-spec = tie.close (tie.spec (λ c κs. search rules) returns returns-2 plan-in-requires (λ c κs. search rules) returns-3 returns-4 returns-5)
+both-given-spec = tie.close (tie.spec (λ c κs. search rules) returns returns-2 (λ c κs. search rules) returns-3 returns-4 returns-5)

@@ -7,7 +7,7 @@ use lib.Seq.{length-take-le}
 use lib.ListN.{length, take}
 use Rattle.forms.specs.Form.{laid}
 use Rattle.forms.proofs.Copied.{copied}
-use Rattle.records.proofs.Put.{onto}
+use Rattle.questions.proofs.Laid.{onto}
 use Rattle.questions.proofs.write.put_items.Statement.{statement}
 use Rattle.questions.proofs.write.put_items.Tie as tie
 

@@ -7,16 +7,15 @@ use lib.Seq.{length-take-le}
 use lib.ListN.{length, take}
 use Rattle.records.specs.Lists.{answer_length}
 use Rattle.records.specs.Situation.{codes_of, situation}
-use Rattle.records.specs.InBytes.{situation_size}
+use Rattle.records.specs.InBytes.{situation_size, situation_bytes}
 use Rattle.records.specs.Plan.{plan}
 use Rattle.records.proofs.PlanForms.{plan_size_is}
-use Rattle.records.proofs.SituationForms.{size_is}
+use Rattle.records.proofs.SituationForms.{size_is, bytes_are}
 use Rattle.paper.specs.Question.{written}
 use Rattle.questions.specs.InCode.{asked}
 use Rattle.forms.specs.Form.{laid}
 use Rattle.questions.proofs.CountedItems.{events_laid, readings_laid}
-use Rattle.records.proofs.Put.{onto}
-use Rattle.questions.proofs.Laid.{length_long, records_laid}
+use Rattle.questions.proofs.Laid.{onto, length_long, records_laid}
 use Rattle.questions.proofs.write.put_question.Statement.{statement}
 use Rattle.questions.proofs.write.put_question.Tie as tie
 
@@ -42,11 +41,12 @@ returns c =
     let f₁ = plan.written q.plan in
     let codes = codes_of q.situation in
     let fits = s.requires.0.2 in
-    let f₂ = (situation q.plan).written codes in
+    let f₂ = take (situation_size codes) (situation_bytes codes) in
     let f₃ : List ℕ = 69 ∷ 86 ∷ events.count ∷ take (2 * events.count) events.bytes in
     let f₄ : List ℕ = 82 ∷ 68 ∷ readings.count ∷ take (3 * readings.count) readings.bytes in
     let f₅ = answer_length.written q.length in
-    let n₂ : length f₂ ≡ situation_size q.plan codes = size_is q.plan codes fits in
+    let is₂ : f₂ ≡ situation.written codes = bytes_are codes fits in
+    let n₂ : length f₂ ≡ situation_size codes = ap length is₂ ∙ size_is codes fits in
     let n₃ : length f₃ ≡ 3 + 2 * events.count = omega (arith, length-take-le (2 * events.count) events.bytes fit.0) in
     let n₄ : length f₄ ≡ 3 + 3 * readings.count = omega (arith, length-take-le (3 * readings.count) readings.bytes fit.1) in
     let r₂ = onto f₁ f₂ room (lb.0 ∙ sym (plan_size_is q.plan), lb.1) (si.0 ∙ sym n₂, si.1) in
@@ -54,7 +54,8 @@ returns c =
     let r₄ = onto ((f₁ ++ f₂) ++ f₃) f₄ room r₃ (rd.0 ∙ sym n₄, rd.1) in
     let r₅ = onto (((f₁ ++ f₂) ++ f₃) ++ f₄) f₅ room r₄ (ln.0 ∙ sym (length_long q), ln.1) in
     let w : (((f₁ ++ f₂) ++ f₃) ++ f₄) ++ f₅ ≡ written q =
-    ap₂ (λ (x y : List ℕ). (((f₁ ++ f₂) ++ x) ++ y) ++ f₅) (events_laid events fit.0) (readings_laid readings fit.1) ∙ records_laid q in
+    ap (λ (x : List ℕ). (((f₁ ++ x) ++ f₃) ++ f₄) ++ f₅) is₂
+    ∙ ap₂ (λ (x y : List ℕ). (((f₁ ++ situation.written codes) ++ x) ++ y) ++ f₅) (events_laid events fit.0) (readings_laid readings fit.1) ∙ records_laid q in
     (r₅.0 ∙ ap length w, r₅.1 ∙ ap (λ (f : List ℕ). laid f room) w)
 
 pub put-question-spec : {M : Type 1} → statement M

@@ -25,9 +25,9 @@ use Rattle.questions.proofs.write.write_question.Tie as tie
 abbrev codes : Packed → Codes
 codes q = codes_of (unpacked q.situation)
 
-asked_long : (q : Packed) → refusal_of (asked q) ≡ 0 → length (written (asked q)) ≡ 9 + plan_size q.plan + situation_size q.plan (codes q) + 2 * q.events.count + 3 * q.readings.count
+asked_long : (q : Packed) → refusal_of (asked q) ≡ 0 → length (written (asked q)) ≡ 9 + plan_size q.plan + situation_size (codes q) + 2 * q.events.count + 3 * q.readings.count
 asked_long q z =
-    let l : length (written (asked q)) ≡ 9 + plan_size q.plan + situation_size q.plan (codes q) + 2 * length (asked q).events + 3 * length (asked q).readings =
+    let l : length (written (asked q)) ≡ 9 + plan_size q.plan + situation_size (codes q) + 2 * length (asked q).events + 3 * length (asked q).readings =
     (long (written (asked q)) (parts_of (asked q)) (written_is_whole (asked q) z)).end in
     omega (arith, l, events_many q.events, readings_many q.readings)
 
@@ -38,8 +38,8 @@ returns c = tells_its_refusal (asked c.before.before.before.args.q) c.before.bef
 plan_small : (q : Packed) {n : ℕ} → n ≡ plan_size q.plan → n ≤ 5
 plan_small q e = omega (arith, e, (plan_size_between q.plan).1)
 
-record_small : (q : Packed) {n : ℕ} → n ≡ situation_size q.plan (codes q) → n ≤ 35
-record_small q e = omega (arith, e, (size_between q.plan (codes q)).1)
+record_small : (q : Packed) {n : ℕ} → n ≡ situation_size (codes q) → n ≤ 23
+record_small q e = omega (arith, e, (size_between (codes q)).1)
 
 add-size : tie.Need-overflow-add-size
 add-size c = omega (arith, plan_small c.before.before.before.before.before.before.args.q c.plan_size.ensures)

@@ -37,14 +37,14 @@ add-m c =
     let g = c.before.before.before in
     let a = g.before.before.args in
     let k : a.width - g.loop.i ≤ 7 = omega arith in
-    omega (arith, field_fits (a.width - g.loop.i) g.loop.m (drop g.loop.i (drop a.at a.s.now)) _ k g.loop.invariant.1, c.digit.ensures.1)
+    omega (arith, field_fits (a.width - g.loop.i) g.loop.m (drop g.loop.i (drop a.at a.s.now)) _ k g.loop.invariant.1, c.digit.ensures, g.before.shared-slice-known.given (a.at + (g.loop.i - 1)))
 
 loop-again : tie.Need-loop-preserved invariant-loop decreases-loop
 loop-again c =
     let g = c.before.before.before in
     let a = g.before.before.args in
     let t = drop a.at a.s.now in
-    (omega arith, field_turn a.width g.loop.i g.loop.m _ t _ c.before.before.loop-test.true g.loop.invariant.0 (omega (arith, length-drop a.at a.s.now)) (bytes_on a.at a.s.now (bytes_of a.s.now g.before.shared-slice-known.given)) (c.digit.ensures.0 ∙ sym (get_or-drop a.at a.s.now (g.loop.i - 1) 0)) g.loop.invariant.1)
+    (omega arith, field_turn a.width g.loop.i g.loop.m _ t _ c.before.before.loop-test.true g.loop.invariant.0 (omega (arith, length-drop a.at a.s.now)) (bytes_on a.at a.s.now (bytes_of a.s.now g.before.shared-slice-known.given)) (c.digit.ensures ∙ sym (get_or-drop a.at a.s.now (g.loop.i - 1) 0)) g.loop.invariant.1)
 
 returns : tie.Need-returns invariant-loop decreases-loop
 unfolding value
@@ -54,7 +54,7 @@ returns c =
     let i : c.before.loop.i ≡ 0 = omega arith in
     let w : a.width - 0 ≡ a.width = omega arith in
     let e = rw (i, w) at c.before.loop.invariant.1 in
-    (rw e, field_fits a.width c.before.loop.m t (drop a.width t) c.before.before.before.requires.0 e)
+    (rw e, ltb-true _ _ ((section_law a.width).one t c.before.loop.m (drop a.width t) e).0)
 
 pub section-field-spec : {M : Type 1} → statement M
 section-field-spec =
