@@ -2,14 +2,14 @@
 use super::line::{Direction, Name, Plan};
 
 // "An event is two bytes, code and argument."
-#[derive(Drop)]
+#[derive(Clone, Copy)]
 pub struct Event {
     pub code: u8,
     pub argument: u8,
 }
 
 // What its bytes name: own, and the section and direction where the argument has them.
-#[derive(Drop)]
+#[derive(Clone, Copy)]
 pub struct Spot {
     pub plan: Plan,
     pub own: Name,

@@ -9,20 +9,20 @@ use super::refused::{ACCEPTED, NO_PLAN};
 use sections::{both, minus, sections_to};
 
 // Its last field says the edition: the rules of 2012, or those of 2024 (02, Req 05).
-#[derive(Drop)]
+#[derive(Clone, Copy)]
 pub struct Plan {
     pub sections: u8,
     pub frontier: u8,
     pub rules2012: bool,
 }
 
-#[derive(Drop)]
+#[derive(Clone, Copy)]
 pub enum Name {
     StationA,
     StationB,
 }
 
-#[derive(Drop)]
+#[derive(Clone, Copy)]
 pub enum Direction {
     TowardsA,
     TowardsB,

@@ -1,7 +1,7 @@
 // A reading that a question asks for.
 
 // "Reading: kind, argument, value."
-#[derive(Drop)]
+#[derive(Clone, Copy)]
 pub struct Reading {
     pub kind: u8,
     pub argument: u8,

@@ -22,7 +22,7 @@ use slots::form::FROM_START;
 use slots::room::{Part, grow_slot, put_grown, put_slot};
 
 // What stays the same through a call: the plan, where the key is continued, and what the readings ask.
-#[derive(Drop)]
+#[derive(Clone, Copy)]
 pub struct Ask {
     pub plan: Plan,
     pub from: [u8; 6],
@@ -31,7 +31,7 @@ pub struct Ask {
 
 // A situation in the walk: the slot that leads to it and its number of places, how many more it may have, whether it lies on the way to the
 // continuation, and how many slots are written.
-#[derive(Drop)]
+#[derive(Clone, Copy)]
 pub struct Node {
     pub slot: [u8; 6],
     pub depth: usize,
@@ -41,7 +41,7 @@ pub struct Node {
 }
 
 // Where a situation's events start, and whether that place lies on the way to the continuation.
-#[derive(Drop)]
+#[derive(Clone, Copy)]
 pub struct Start {
     pub place: usize,
     pub on: bool,

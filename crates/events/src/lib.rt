@@ -26,7 +26,7 @@ const SECTION: u8 = 3;
 const NOTHING: u8 = 4;
 
 // The refusal, 0 where the event is accepted, what it names, and the situation after.
-#[derive(Drop)]
+#[derive(Clone, Copy)]
 pub struct Applied {
     pub refusal: u8,
     pub name: u8,

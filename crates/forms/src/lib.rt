@@ -1,5 +1,5 @@
 // Forms of bytes, and how they compose: definitions and laws. Of code only the letters that a record begins with.
-#[derive(Drop)]
+#[derive(Clone, Copy)]
 pub struct Letters {
     pub first: u8,
     pub second: u8,

@@ -20,7 +20,7 @@ use slots::room::Part;
 use words::wide;
 
 // The refusal, whether more remain, and how many slots were written.
-#[derive(Drop)]
+#[derive(Clone, Copy)]
 pub struct Fetched {
     pub refusal: u8,
     pub more: bool,
@@ -29,7 +29,7 @@ pub struct Fetched {
 
 // The refusal of the question or of the slot; else the place within the slot and the refusal of the first refused event, with what that names, or
 // zeros and whether all readings hold.
-#[derive(Drop)]
+#[derive(Clone, Copy)]
 pub struct Ran {
     pub refusal: u8,
     pub place: u8,

@@ -14,7 +14,7 @@ use sheet::{accepted_line, empty_line};
 use typed::{typed_refusal, write_line};
 
 // An answer is blank, seconds with a float, or metres with a float.
-#[derive(Drop)]
+#[derive(Clone, Copy)]
 pub enum Answer {
     Blank,
     Seconds(f32),
@@ -22,7 +22,7 @@ pub enum Answer {
 }
 
 // What marking returns: a refusal and zeros, or 0 and the line.
-#[derive(Drop)]
+#[derive(Clone, Copy)]
 pub struct Marked {
     pub refusal: u8,
     pub line: Line,

@@ -6,7 +6,7 @@ ghost use Rattle.numeric.specs.Inner.{Small};
 use super::codes::{ASKS_METRES, ASKS_SECONDS};
 
 // The fraction top / bottom.
-#[derive(Drop)]
+#[derive(Clone, Copy)]
 pub struct Fraction {
     pub top: u32,
     pub bottom: u32,

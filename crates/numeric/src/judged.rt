@@ -12,7 +12,7 @@ use super::exact::Fraction;
 use super::scaled::scaled;
 
 // The number ±digits * 2^power / 2^149.
-#[derive(Drop)]
+#[derive(Clone, Copy)]
 pub struct Parts {
     pub negative: bool,
     pub digits: u32,
@@ -20,7 +20,7 @@ pub struct Parts {
 }
 
 // 1000 times the distance, as a multiple of 1 / bottom, cut down and cut up; and on which side the number lies.
-#[derive(Drop)]
+#[derive(Clone, Copy)]
 pub struct Gap {
     pub below: bool,
     pub low: u64,

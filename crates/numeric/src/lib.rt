@@ -6,7 +6,7 @@ pub mod nearest;
 mod scaled;
 
 // A sheet line: the number as given, the model value, the verdict and the signed error.
-#[derive(Drop)]
+#[derive(Clone, Copy)]
 pub struct Line {
     pub given: f32,
     pub model: f32,

@@ -4,7 +4,7 @@ ghost use Rattle.std.specs.Prelude.{◌≡◌, ◌+◌, ◌-◌, ◌*◌, ◌/�
 ghost use Rattle.numeric.specs.Inner.{cut_down, cut_up};
 
 // The greatest whole number that is not above a fraction, and the least that is not below it.
-#[derive(Drop)]
+#[derive(Clone, Copy)]
 pub struct Cut {
     pub low: u64,
     pub high: u64,

@@ -13,7 +13,7 @@ use soundness::judged;
 
 // The refusal; else 0, how many events there are, and the bytes from `events` up to `events_end` are the events, those from `readings` up to
 // `readings_end` the readings.
-#[derive(Drop)]
+#[derive(Clone, Copy)]
 pub struct Found {
     pub refusal: u8,
     pub plan: Plan,

@@ -16,7 +16,7 @@ const PART: usize = 4096;
 pub const ROOM: usize = LONGEST_LINE * PART + LONGEST_TOTAL;
 
 // Where the printing is: the slot that it goes on after, how many sequences have their lines, and whether the text has ended.
-#[derive(Drop)]
+#[derive(Clone, Copy)]
 pub struct Progress {
     pub after: [u8; 6],
     pub total: u64,
@@ -24,7 +24,7 @@ pub struct Progress {
 }
 
 // How long the piece is, and where the printing is after it.
-#[derive(Drop)]
+#[derive(Clone, Copy)]
 pub struct Piece {
     pub length: usize,
     pub next: Progress,

@@ -11,7 +11,7 @@ use records::lists::{EVENT, READING};
 use situation::{Signals, Situation};
 
 // The question and 0, or the refusal and zeros.
-#[derive(Drop)]
+#[derive(Clone, Copy)]
 pub struct Read {
     pub refusal: u8,
     pub question: Question,

@@ -21,7 +21,7 @@ use situations::{put_situation, record_size};
 use words::wide;
 
 // How many bytes were written, or the refusal and 0.
-#[derive(Drop)]
+#[derive(Clone, Copy)]
 pub struct Written {
     pub refusal: u8,
     pub length: usize,

@@ -9,7 +9,7 @@ use super::plan::take_plan;
 use super::situation::take_situation;
 
 // Whether the bytes are the records of a question, and where SI or SJ, EV, RD and LN begin; else zeros.
-#[derive(Drop)]
+#[derive(Clone, Copy)]
 pub struct Laid {
     pub there: bool,
     pub si: usize,

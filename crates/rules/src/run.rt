@@ -16,7 +16,7 @@ use records::lists::event_at;
 use situation::Situation;
 
 // The place of the first refused event within the slot, from 1, its refusal and what that names, or zeros and whether all readings hold.
-#[derive(Drop)]
+#[derive(Clone, Copy)]
 pub struct Told {
     pub place: u8,
     pub refusal: u8,

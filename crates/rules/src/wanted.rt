@@ -17,7 +17,7 @@ use situation::codes::for_value;
 
 // A set for each station: the codes of orientation, annulment and exit route, as one number, that the readings allow.
 // The line's: 0 if it may be free, 1 if it may not. How many bytes of readings there are from the first aspect on, 0 if there is none.
-#[derive(Drop)]
+#[derive(Clone, Copy)]
 pub struct Wanted {
     pub own: u64,
     pub other: u64,

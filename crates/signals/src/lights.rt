@@ -20,7 +20,7 @@ const YELLOW: u8 = 1;
 const GREEN: u8 = 2;
 
 // The signals of a direction that are not red, and Those that are green, by their sections.
-#[derive(Drop)]
+#[derive(Clone, Copy)]
 pub struct Lights {
     pub open: u64,
     pub green: u64,

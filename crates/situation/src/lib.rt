@@ -10,14 +10,14 @@ pub mod stations;
 pub mod watch;
 
 // The signals held towards B and towards A, by their sections.
-#[derive(Drop)]
+#[derive(Clone, Copy)]
 pub struct Signals {
     pub heldb: u64,
     pub helda: u64,
 }
 
 // What every event needs: the flags of both stations and of the line, a bit each, and the occupied sections. Beside it the signals.
-#[derive(Drop)]
+#[derive(Clone, Copy)]
 pub struct Situation {
     pub flags: u64,
     pub occupied: u64,
@@ -25,7 +25,7 @@ pub struct Situation {
 }
 
 // A station's own flags, the lowest of the word.
-#[derive(Drop)]
+#[derive(Clone, Copy)]
 pub struct Station {
     pub flags: u64,
 }

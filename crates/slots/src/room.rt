@@ -6,7 +6,7 @@ ghost use Rattle.keylaws.specs.Sheet.{grow, put};
 use super::form::SLOT;
 
 // How many slots the room holds, and whether one more is known that has no place.
-#[derive(Drop)]
+#[derive(Clone, Copy)]
 pub struct Part {
     pub count: usize,
     pub more: bool,
