@@ -1,11 +1,12 @@
 -- Both exit signals are off red together only where a station is under AFBLE: an exit signal that is off red has its area's direction out, which is
 -- AFBLE's or the orientation, and not both stations are oriented out. Assumes nothing.
+use Rattle.std.specs.Prelude.{if◌then◌else◌}
 use mathlib.Core.Bool.{Bool, true, false}
 use mathlib.Core.Path.{◌≡◌, refl, subst}
 use native.Mathlib.Omega.{arith}
 use borrow.Author.Tests.{eq-eqb}
 use lib.Dec.{T}
-use Rattle.words.specs.Words.{◌and◌, ◌or◌, if◌then◌else◌}
+use Rattle.words.specs.Words.{◌and◌, ◌or◌}
 use Rattle.words.proofs.Tests.{and_of, holds_is}
 use Rattle.block.specs.Line.{is_plan, first_section, entrance}
 use Rattle.block.specs.declared.line.Plan.{Plan}

@@ -1,9 +1,10 @@
 -- Each signal is off red in some sound situation: one station out, with an exit route, the other in, and the line empty. Assumes nothing.
+use Rattle.std.specs.Prelude.{if◌then◌else◌}
 use Prim.Native.Nat.{ℕ, zero, suc}
 use mathlib.Core.Bool.{Bool, true, false, not}
 use mathlib.Core.Path.{refl, sym, subst}
 use lib.Dec.{T}
-use Rattle.words.specs.Words.{◌and◌, ◌or◌, if◌then◌else◌}
+use Rattle.words.specs.Words.{◌and◌, ◌or◌}
 use Rattle.words.proofs.Tests.{if_case, holds_is}
 use Rattle.sections.specs.Sections.{none, ◌belongs_to◌}
 use Rattle.sections.proofs.SetLaws.{none_has}

@@ -1,12 +1,13 @@
 -- Opposing signals over one section are never off red together: a signal that is off red is open, an open one has its area's direction, and where each
 -- area has one direction it has not both. Of the situation nothing else is asked. Assumes nothing.
+use Rattle.std.specs.Prelude.{if◌then◌else◌}
 use Prim.Native.Nat.{ℕ, zero, suc, ◌+◌, ◌-◌, ◌<◌}
 use mathlib.Core.Bool.{Bool, true, false, not}
 use mathlib.Core.Path.{◌≡◌, sym, ap, subst, ◌∙◌}
 use native.Mathlib.Omega.{arith}
 use borrow.Author.Tests.{le-leb, lt-leb}
 use lib.Dec.{T, T_not, not_T, eqb→eq}
-use Rattle.words.specs.Words.{◌and◌, ◌or◌, if◌then◌else◌}
+use Rattle.words.specs.Words.{◌and◌, ◌or◌}
 use Rattle.words.proofs.Tests.{and_at, and_of, holds_is, fails_is, if_case}
 use Rattle.sections.specs.Sections.{◌belongs_to◌}
 use Rattle.block.specs.Line.{is_plan, is_section, owner, entrance, after, direction_of, section_of, is_signal, is_exit}

@@ -1,9 +1,10 @@
 -- A station's area as a set of sections: A's ends at the frontier, B's are the others. Assumes nothing.
+use Rattle.std.specs.Prelude.{if◌then◌else◌}
 use mathlib.Core.Bool.{Bool, true, false, not}
 use mathlib.Core.Path.{◌≡◌, refl, ap₂, ◌∙◌}
 use Prim.Native.Nat.{ℕ}
 use lib.Dec.{leb, ltb}
-use Rattle.words.specs.Words.{◌and◌, if◌then◌else◌}
+use Rattle.words.specs.Words.{◌and◌}
 use Rattle.sections.specs.Sets.{both, ◌minus◌, up_to}
 use Rattle.sections.proofs.SetsOfSets.{in_both, in_minus, in_sections_to}
 use Rattle.block.specs.Line.{same_station}

@@ -1,5 +1,6 @@
 -- A sequence is in the key exactly if the event calls, chained through their own bytes, all answer 0 and the reading calls give at the end what is
 -- asked. Assumes nothing.
+use Rattle.std.specs.Prelude.{if◌then◌else◌}
 use Prim.Native.Nat.{ℕ, suc, ◌*◌}
 use mathlib.Core.Path.{◌≡◌, refl, sym, ap, ◌∙◌}
 use mathlib.Core.Bool.{Bool, true}
@@ -8,7 +9,7 @@ use native.Mathlib.Omega.{arith}
 use borrow.Author.Tests.{eqb-true, eq-eqb}
 use lib.ListN.{length}
 use lib.Dec.{T, leb}
-use Rattle.words.specs.Words.{◌and◌, if◌then◌else◌}
+use Rattle.words.specs.Words.{◌and◌}
 use Rattle.words.proofs.Tests.{holds_is}
 use Rattle.forms.specs.Whole.{Whole}
 use Rattle.forms.proofs.Reading.{both}

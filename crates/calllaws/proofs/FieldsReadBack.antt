@@ -1,4 +1,5 @@
 -- The numbers that calls return, read back into their fields: a byte each, and then a count or a length. Assumes nothing.
+use Rattle.std.specs.Prelude.{if◌then◌else◌}
 use Prim.Native.Nat.{ℕ, ◌+◌, ◌/◌, ◌%◌, ◌≤◌, ◌<◌}
 use mathlib.Core.Path.{◌≡◌, refl}
 use mathlib.Core.Bool.{Bool, true, false, cond}
@@ -7,7 +8,7 @@ use native.Mathlib.Omega.{arith}
 use lib.ListN.{length, drop, get_or, length-take, length-drop}
 use borrow.Author.Tests.{eqb-true}
 use lib.Dec.{eqb, leb}
-use Rattle.words.specs.Words.{◌and◌, flag, if◌then◌else◌}
+use Rattle.words.specs.Words.{◌and◌, flag}
 use Rattle.words.proofs.Tests.{is_holds, if_case}
 use Rattle.keylaws.proofs.Tests.{both}
 use Rattle.forms.specs.Whole.{Whole, refused as no_form, accepted as form}

@@ -1,5 +1,6 @@
 -- The school's first rule over the calls: the records at the end of any event calls say the situation after the events tried (OneEvent: an accepted call
 -- writes those of the situation after, and a refused event leaves it), where the rule holds (aspects FirstRule). Assumes nothing.
+use Rattle.std.specs.Prelude.{if◌then◌else◌}
 use Prim.Native.Nat.{ℕ, zero, suc, ◌+◌, ◌-◌, ◌%◌, ◌≤◌, ◌<◌}
 use mathlib.Core.Path.{◌≡◌, refl, sym, ap, ap₂, subst, ◌∙◌}
 use mathlib.Core.Bool.{Bool, true, false, not}
@@ -10,7 +11,7 @@ use borrow.Author.Tests.{le-leb, lt-ltb, le-ltb}
 use lib.ListN.{length, drop, get_or, get_or-append}
 use lib.Seq.{get_or_at}
 use lib.Dec.{T, T_not, eqb, leb, eqb→eq, leb→le}
-use Rattle.words.specs.Words.{◌and◌, if◌then◌else◌}
+use Rattle.words.specs.Words.{◌and◌}
 use Rattle.words.proofs.Tests.{if_case, holds_is, is_holds, and_at, and_of, not_equal}
 use Rattle.forms.specs.Form.{laid}
 use Rattle.forms.specs.Whole.{Whole}

@@ -1,4 +1,5 @@
 -- The calls of `folvkin_key` fetch the key. Assumes nothing.
+use Rattle.std.specs.Prelude.{if◌then◌else◌}
 use Prim.Native.Nat.{ℕ, ◌≤◌}
 use mathlib.Core.Path.{◌≡◌, refl, sym, ap, ap₂, subst, ◌∙◌}
 use mathlib.Core.Bool.{Bool, true, false, cond}
@@ -7,7 +8,7 @@ use native.Mathlib.Omega.{arith}
 use borrow.Author.Tests.{eq-eqb}
 use lib.ListN.{length}
 use lib.Dec.{eqb}
-use Rattle.words.specs.Words.{flag, if◌then◌else◌}
+use Rattle.words.specs.Words.{flag}
 use Rattle.keylaws.specs.Continuation.{from_start, is_continuation}
 use Rattle.keylaws.specs.Parts.{Part, handed, part_after, last_slot, calls, joined, total, remain, Rooms}
 use Rattle.keylaws.proofs.SlotsOfWords.{start_continues}

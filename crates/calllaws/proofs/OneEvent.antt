@@ -1,5 +1,6 @@
 -- One call of `folvkin_event`, on records that say a plan and a sound situation: it tells what `applied` gives, and writes the records of the
 -- situation after. Assumes nothing.
+use Rattle.std.specs.Prelude.{if◌then◌else◌}
 use Prim.Native.Nat.{ℕ, ◌+◌, ◌≤◌}
 use mathlib.Core.Path.{◌≡◌, refl, sym, ap, ap₂, ◌∙◌}
 use mathlib.Core.Bool.{Bool, true, false, not}
@@ -9,7 +10,6 @@ use borrow.Author.Tests.{eqb-true, le-leb}
 use lib.ListN.{length, take, drop}
 use lib.Seq.{take-append_seam}
 use lib.Dec.{T, eqb}
-use Rattle.words.specs.Words.{if◌then◌else◌}
 use Rattle.words.proofs.Tests.{not_equal, if_case}
 use Rattle.forms.specs.Whole.{Whole, accepted as form}
 use Rattle.forms.proofs.Whole.{written_is_read}

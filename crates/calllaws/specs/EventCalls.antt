@@ -1,7 +1,7 @@
 -- Events run by calls of `folvkin_event`, each on the records that the one before wrote, readings asked by calls of `folvkin_reading`, and aspects by a
 -- call of `folvkin_aspects`.
-use Rattle.std.specs.Prelude.{ℕ, ◌*◌, ◌≤◌, ◌≡◌, Bool, List, [], ◌∷◌, map, length, take, get_or, eqb, leb}
-use Rattle.words.specs.Words.{◌and◌, if◌then◌else◌}
+use Rattle.std.specs.Prelude.{ℕ, ◌*◌, ◌≤◌, ◌≡◌, Bool, List, [], ◌∷◌, map, length, take, get_or, eqb, leb, if◌then◌else◌}
+use Rattle.words.specs.Words.{◌and◌}
 use Rattle.block.specs.declared.event.Event.{Event}
 use Rattle.block.specs.declared.reading.Reading.{Reading}
 use Rattle.aspects.specs.Aspects.{green, code}

@@ -1,10 +1,11 @@
 -- What refuses an event of a section or of a signal in 2024, and where one leads that leaves the stations, is the same as either station sees it.
 -- Assumes nothing.
+use Rattle.std.specs.Prelude.{if◌then◌else◌}
 use Prim.Native.Nat.{ℕ}
 use mathlib.Core.Bool.{Bool, not}
 use mathlib.Core.Path.{◌≡◌, refl, sym, ap, ◌∙◌}
 use lib.Dec.{eqb}
-use Rattle.words.specs.Words.{◌and◌, if◌then◌else◌}
+use Rattle.words.specs.Words.{◌and◌}
 use Rattle.words.proofs.Tests.{or_turned}
 use Rattle.sections.specs.Sections.{none, ◌with_section◌, ◌without_section◌}
 use Rattle.rulebook.specs.Situation.{Situation, Kept, seen_from, kept_from, held, with_held, with_track, ◌has_exit_route}

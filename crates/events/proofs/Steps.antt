@@ -1,11 +1,11 @@
 -- A step is known by its refusal: accepted it leads on, refused it hands the situation back. Assumes nothing.
+use Rattle.std.specs.Prelude.{if◌then◌else◌}
 use Prim.Native.Nat.{ℕ, zero, suc}
 use mathlib.Core.Path.{◌≡◌, refl, sym, ap, ◌∙◌}
 use mathlib.Core.Bool.{Bool, true, false, not}
 use native.Mathlib.Omega.{arith}
 use borrow.Author.Tests.{ne_eqb}
 use lib.Dec.{eqb}
-use Rattle.words.specs.Words.{if◌then◌else◌}
 use Rattle.rulebook.specs.Situation.{Kept}
 use Rattle.rulebook.specs.Apply.{known, argument_right, accepted, refused, own_refusal, reached, acted, stepped, Outcome}
 use Rattle.block.specs.declared.line.Plan.{Plan}

@@ -1,4 +1,5 @@
 -- Aspects written one after the other into a room: the room holds Those written so far, then what it held. Assumes nothing.
+use Rattle.std.specs.Prelude.{if◌then◌else◌}
 use Prim.Native.Nat.{ℕ, zero, suc, ◌+◌, ◌-◌, ◌/◌, ◌%◌, ◌^◌, ◌≤◌, ◌<◌}
 use mathlib.Core.Path.{◌≡◌, refl, sym, ap, ap₂, ◌∙◌}
 use mathlib.Core.Bool.{Bool, true}
@@ -11,7 +12,6 @@ use lib.Pow.{shr-shr}
 use lib.ListN.{length, take, drop, set, get_or, length-append, length-drop, drop_of_length-le}
 use lib.Seq.{drop-cons, set_at, take_at, drop_at, drop-drop}
 use borrow.Author.Tests.{lt-ltb, le-ltb, le-leb, lt-leb}
-use Rattle.words.specs.Words.{if◌then◌else◌}
 use Rattle.sections.specs.Sections.{◌belongs_to◌}
 use Rattle.sections.specs.Sets.{one_down}
 use Rattle.block.specs.Line.{is_plan, is_section}

@@ -1,7 +1,6 @@
 -- The calls on a plan and a situation, each the records exactly as they stand in a question. Refusals in the document's order: 20 where they are
 -- not, or event or reading have another length than two bytes; 1, 2; 3, 4; 21; 24; then the event's own.
-use Rattle.std.specs.Prelude.{ℕ, zero, suc, ◌+◌, ◌-◌, ◌*◌, List, [], ◌∷◌, ◌++◌, eqb, leb, ltb, length, get_or}
-use Rattle.words.specs.Words.{if◌then◌else◌}
+use Rattle.std.specs.Prelude.{ℕ, zero, suc, ◌+◌, ◌-◌, ◌*◌, List, [], ◌∷◌, ◌++◌, eqb, leb, ltb, length, get_or, if◌then◌else◌}
 use Rattle.forms.specs.Form.{laid}
 use Rattle.forms.specs.Whole.{Whole, refused as no_form, accepted, whole}
 use Rattle.block.specs.Line.{plan_judged}

@@ -1,4 +1,5 @@
 -- Forms that write at most so many bytes: how many follows from how they are put together. Assumes nothing.
+use Rattle.std.specs.Prelude.{if◌then◌else◌}
 use Prim.Native.Nat.{ℕ, ◌+◌, ◌*◌, ◌≤◌, ◌<◌}
 use mathlib.Core.Path.{◌≡◌, refl, ap}
 use mathlib.Core.Bool.{Bool, true, false}
@@ -8,7 +9,7 @@ use native.Mathlib.Nat.{mul-le-mul}
 use borrow.Author.Tests.{leb-true}
 use lib.ListN.{length, length-append}
 use lib.Dec.{leb}
-use Rattle.words.specs.Words.{◌and◌, ◌or◌, if◌then◌else◌}
+use Rattle.words.specs.Words.{◌and◌, ◌or◌}
 use Rattle.forms.specs.declared.Letters.{Letters}
 use Rattle.forms.specs.Form.{Form}
 use Rattle.forms.specs.Compose.{◌▸◌, letters, all, each_written, counted, named}

@@ -1,11 +1,12 @@
 -- A record that is left out exactly when all of its body is zero. Assumes nothing.
+use Rattle.std.specs.Prelude.{if◌then◌else◌}
 use Prim.Native.Nat.{ℕ}
 use mathlib.Core.Path.{◌≡◌, refl, ap}
 use mathlib.Core.Bool.{Bool, true, false, not}
 use mathlib.Core.Logic.{◌⊎◌, inl, inr}
 use mathlib.Core.List.{List, [], ◌∷◌, ◌++◌}
 use borrow.Author.Tests.{not-true}
-use Rattle.words.specs.Words.{◌or◌, if◌then◌else◌}
+use Rattle.words.specs.Words.{◌or◌}
 use Rattle.forms.specs.Form.{Found, nothing, found, Form}
 use Rattle.forms.specs.declared.Letters.{Letters}
 use Rattle.forms.specs.Compose.{stands, letters}

@@ -1,7 +1,7 @@
 -- A value that stands for itself without a byte, or as a byte that is always the same, and one of two forms, as SI and SJ are (02, Req 02) and LB and LC
 -- (02, Req 05). What is left out where it is zero, and so many values, no record uses yet.
-use Rattle.std.specs.Prelude.{ℕ, Bool, true, not, List, [], ◌∷◌, length, eqb}
-use Rattle.words.specs.Words.{◌and◌, ◌or◌, if◌then◌else◌}
+use Rattle.std.specs.Prelude.{ℕ, Bool, true, not, List, [], ◌∷◌, length, eqb, if◌then◌else◌}
+use Rattle.words.specs.Words.{◌and◌, ◌or◌}
 use Rattle.forms.specs.declared.Letters.{Letters}
 use Rattle.forms.specs.Form.{Found, nothing, found, Form}
 use Rattle.forms.specs.Compose.{byte, only, letters, all, each_written, each_read}

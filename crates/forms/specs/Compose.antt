@@ -1,6 +1,6 @@
 -- Forms, put together of forms.
-use Rattle.std.specs.Prelude.{ℕ, zero, suc, ◌+◌, ◌*◌, ◌/◌, ◌%◌, ◌^◌, Bool, true, false, List, [], ◌∷◌, ◌++◌, length, eqb, leb, ltb}
-use Rattle.words.specs.Words.{◌and◌, if◌then◌else◌}
+use Rattle.std.specs.Prelude.{ℕ, zero, suc, ◌+◌, ◌*◌, ◌/◌, ◌%◌, ◌^◌, Bool, true, false, List, [], ◌∷◌, ◌++◌, length, eqb, leb, ltb, if◌then◌else◌}
+use Rattle.words.specs.Words.{◌and◌}
 use Rattle.forms.specs.declared.Letters.{Letters}
 use Rattle.forms.specs.Form.{Found, nothing, found, Form, after}
 

@@ -1,4 +1,5 @@
 -- The key of a question, over the real rules: every right sequence, once, in the stated order, with nothing else; fetched in parts, the parts joined are the same key; a candidate's slot is in it exactly if its run ends with all readings holding. The laws of keys over any rules, with the rules of the question.
+use Rattle.std.specs.Prelude.{if◌then◌else◌}
 use Prim.Native.Nat.{ℕ, ◌≤◌, ◌<◌}
 use mathlib.Core.Path.{◌≡◌, refl, ap, ap₂}
 use mathlib.Core.Logic.{◌↔◌}
@@ -7,7 +8,6 @@ use mathlib.Core.List.{List, [], ◌∷◌, ◌++◌, map}
 use native.Mathlib.Omega.{arith}
 use lib.ListN.{length, get_or}
 use borrow.Author.Tests.{le-leb}
-use Rattle.words.specs.Words.{if◌then◌else◌}
 use Rattle.keylaws.specs.Rules.{Word}
 use Rattle.keylaws.specs.Key.{Answer, ◌among◌}
 use Rattle.keylaws.specs.Order.{before}

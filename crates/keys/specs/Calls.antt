@@ -1,6 +1,5 @@
 -- The two calls: a part of a question's key, and a candidate's slot run.
-use Rattle.std.specs.Prelude.{ℕ, false, List, length, eqb, leb}
-use Rattle.words.specs.Words.{if◌then◌else◌}
+use Rattle.std.specs.Prelude.{ℕ, false, List, length, eqb, leb, if◌then◌else◌}
 use Rattle.keylaws.specs.Slots.{word_of, is_slot}
 use Rattle.keylaws.specs.Continuation.{is_continuation}
 use Rattle.keylaws.specs.Parts.{Part, handed, part_after}

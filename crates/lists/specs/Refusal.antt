@@ -1,7 +1,7 @@
 -- The refusal of a question's lists. "Order: .. 3, 4, 21": "3 unknown code; 4 argument; .. 21 LN above 5, an event listed twice, a reading out
 -- of range". 0 is accepted.
-use Rattle.std.specs.Prelude.{ℕ, Bool, true, false, not, List, [], ◌∷◌, eqb, leb}
-use Rattle.words.specs.Words.{◌and◌, ◌or◌, if◌then◌else◌}
+use Rattle.std.specs.Prelude.{ℕ, Bool, true, false, not, List, [], ◌∷◌, eqb, leb, if◌then◌else◌}
+use Rattle.words.specs.Words.{◌and◌, ◌or◌}
 use Rattle.block.specs.declared.line.Plan.{Plan}
 use Rattle.block.specs.declared.event.Event.{Event}
 use Rattle.block.specs.declared.reading.Reading.{Reading}

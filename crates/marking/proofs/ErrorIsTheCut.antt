@@ -1,4 +1,5 @@
 -- "The signed error is (answer minus exact) in thousandths, cut toward zero, held to -1,000,000..1,000,000; zero for verdicts 2 to 4": said of the error alone, without a division. Assumes nothing.
+use Rattle.std.specs.Prelude.{if◌then◌else◌}
 use mathlib.Core.Path.{◌≡◌, refl, sym, ap, ◌∙◌, subst}
 use Prim.Native.Nat.{ℕ, zero, suc, ◌+◌, ◌*◌, ◌/◌, ◌≤◌, ◌<◌, min}
 use native.Mathlib.Nat.{le_trans, le_of_eq, mul-pos, le-div_iff_mul-le, div-lt_iff_lt-mul, mul-le-mul_right}
@@ -8,7 +9,6 @@ use lib.Dec.{T, leb}
 use lib.IntN.{ℤ, pos, nat_abs}
 use lib.Ieee.{Float, nan, inf, fin}
 use lib.Ieee.Fits.{down_pos}
-use Rattle.words.specs.Words.{if◌then◌else◌}
 use Rattle.numeric.specs.Exact.{Value, in_range, exact_answer, exact_value, distance, below, signed, signed_error}
 use Rattle.marking.specs.Sheet.{given_of, marked}
 use Rattle.marking.specs.declared.Answer.{Answer}

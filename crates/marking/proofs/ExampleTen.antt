@@ -1,4 +1,5 @@
 -- Marked example 10: "1,000 m, 70 km/h, tolerance 0: no float is right." The exact answer is 360 / 7, and no multiple of 7 is 360 times a power of two. Assumes nothing.
+use Rattle.std.specs.Prelude.{if◌then◌else◌}
 use mathlib.Core.Path.{◌≡◌, refl, sym, ap, ◌∙◌, subst}
 use Prim.Native.Nat.{ℕ, zero, suc, ◌+◌, ◌*◌, ◌/◌, ◌%◌, ◌^◌, ◌≤◌, ◌<◌}
 use native.Mathlib.Nat.{pow-suc, zero-mul}
@@ -8,7 +9,6 @@ use lib.Dec.{T, leb→le}
 use lib.IntN.{ℤ, pos, negsuc}
 use lib.Ieee.{Float, nan, inf, fin, up, down}
 use lib.Ieee.Fits.{down_pos}
-use Rattle.words.specs.Words.{if◌then◌else◌}
 use Rattle.numeric.specs.Exact.{Value, ◌÷◌, apart, distance, right, exact_value}
 use Rattle.numeric.specs.Number.{number_verdict}
 use Rattle.marking.specs.Sheet.{verdict_of, marked}

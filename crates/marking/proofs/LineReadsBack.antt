@@ -1,4 +1,5 @@
 -- A sheet line read back from its bytes gives the verdict and the error that were written, the pattern that was typed, and the model value's pattern. Assumes nothing.
+use Rattle.std.specs.Prelude.{if◌then◌else◌}
 use mathlib.Core.Path.{◌≡◌, refl, sym, ap, ◌∙◌, subst}
 use mathlib.Core.List.{List, ◌++◌}
 use Prim.Native.Nat.{ℕ, suc, ◌+◌, ◌-◌, ◌*◌, ◌/◌, ◌%◌, ◌^◌, ◌≤◌, ◌<◌, min}
@@ -11,7 +12,6 @@ use lib.IntN.{ℤ, pos, negsuc, nat_abs}
 use lib.Ieee.{binary32, of_bits, to_bits, fits}
 use lib.Ieee.Bits.{to_bits-lt}
 use borrow.Author.Tests.{lt-ltb, le-ltb}
-use Rattle.words.specs.Words.{if◌then◌else◌}
 use Rattle.numeric.specs.Exact.{Value, in_range, exact_answer, exact_value, distance, below, signed_error}
 use Rattle.marking.specs.Sheet.{given_of, verdict_of, sheet_line, refused, marked}
 use Rattle.marking.specs.Typed.{answer_of, pattern_of, word, twos, line_bytes, typed_refusal, typed_line, room_after, word_at, signed_word, model_read, verdict_read, error_read}

@@ -1,9 +1,9 @@
 -- The answer of marking a question in range. Assumes nothing.
+use Rattle.std.specs.Prelude.{if◌then◌else◌}
 use mathlib.Core.Path.{◌≡◌, ap}
 use Prim.Native.Nat.{ℕ}
 use mathlib.Core.Bool.{Bool, true, false}
 use lib.Dec.{T}
-use Rattle.words.specs.Words.{if◌then◌else◌}
 use Rattle.numeric.specs.Exact.{in_range, exact_answer}
 use Rattle.marking.specs.Sheet.{sheet_line, refused, marked}
 use Rattle.marking.specs.declared.Answer.{Answer}

@@ -1,4 +1,5 @@
 -- "minus zero is zero": typed as minus zero, pattern 2 ^ 31, an answer gets the verdict and the error that plus zero, pattern 0, gets. Assumes nothing.
+use Rattle.std.specs.Prelude.{if◌then◌else◌}
 use mathlib.Core.Path.{◌≡◌, refl, sym, ap, ◌∙◌}
 use Prim.Native.Nat.{ℕ, ◌+◌, ◌-◌, ◌*◌, ◌/◌, ◌^◌, ◌<◌, min}
 use native.Mathlib.Nat.{zero-mul}
@@ -8,7 +9,6 @@ use lib.Dec.{T, leb, eqb}
 use lib.IntN.{ℤ, pos}
 use lib.Ieee.{Float, fin, binary32, of_bits}
 use borrow.Author.Tests.{lt-ltb}
-use Rattle.words.specs.Words.{if◌then◌else◌}
 use Rattle.numeric.specs.Exact.{in_range, exact_answer, exact_value, distance, below, right, signed, signed_error}
 use Rattle.marking.specs.Sheet.{unit_asked, sheet_line, marked}
 use Rattle.marking.specs.Typed.{answer_of, typed_line}

@@ -1,4 +1,5 @@
 -- "Typed in the unit asked, at a tolerance of 32 or more, the model value is marked right." Assumes nothing.
+use Rattle.std.specs.Prelude.{if◌then◌else◌}
 use mathlib.Core.Path.{◌≡◌, sym, ap, ◌∙◌}
 use Prim.Native.Nat.{ℕ, ◌*◌, ◌^◌, ◌≤◌}
 use native.Mathlib.Nat.{le_trans, le_of_eq, mul_assoc, mul-le-mul_right, mul-le-mul_left}
@@ -9,7 +10,6 @@ use lib.Pow.{pow_pos}
 use lib.Ieee.{Float, binary32}
 use lib.Ieee.Scale.{grid}
 use borrow.Author.Tests.{le-leb}
-use Rattle.words.specs.Words.{if◌then◌else◌}
 use Rattle.numeric.specs.Exact.{apart, in_range, exact_answer, exact_value, right}
 use Rattle.numeric.specs.Nearest.{model_value}
 use Rattle.numeric.specs.Number.{number_verdict}

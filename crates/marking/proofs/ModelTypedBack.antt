@@ -1,4 +1,5 @@
 -- "Typed in the unit asked, at a tolerance of 32 or more, the model value is marked right", of bytes: the four model bytes of a sheet line, typed back as the pattern, give a line whose verdict byte is 1. Assumes nothing.
+use Rattle.std.specs.Prelude.{if◌then◌else◌}
 use mathlib.Core.Path.{◌≡◌, refl, sym, ap, ◌∙◌, subst}
 use mathlib.Core.List.{List}
 use Prim.Native.Nat.{ℕ, ◌≤◌}
@@ -7,7 +8,6 @@ use lib.Dec.{T, eqb}
 use lib.Ieee.{Float, binary32, of_bits, to_bits, fits}
 use lib.Ieee.Bits.{of_bits-to_bits}
 use lib.Ieee.Fits.{round-fits}
-use Rattle.words.specs.Words.{if◌then◌else◌}
 use Rattle.numeric.specs.Exact.{exact_answer}
 use Rattle.numeric.specs.Nearest.{model_value}
 use Rattle.marking.specs.Sheet.{unit_of, given_of, unit_asked}

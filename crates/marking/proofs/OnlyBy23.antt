@@ -1,4 +1,5 @@
 -- "23 is the only refusal in numeric marking": given room for a line, marking is refused by 23 or not at all, and by 23 exactly if the question or the unit byte is out of range. "Every refusal returns its number and zeros .. and lent memory keeps its values." Assumes nothing.
+use Rattle.std.specs.Prelude.{if◌then◌else◌}
 use mathlib.Core.Path.{◌≡◌, refl, ap, ◌∙◌, subst}
 use mathlib.Core.Logic.{◌⊎◌, inl, inr, ◌↔◌}
 use mathlib.Core.List.{List}
@@ -8,7 +9,6 @@ use mathlib.Core.Bool.{Bool, true, false, not, ◌&&◌}
 use lib.Dec.{T, leb}
 use lib.ListN.{length}
 use borrow.Author.Tests.{le-ltb, ne_eqb}
-use Rattle.words.specs.Words.{if◌then◌else◌}
 use Rattle.numeric.specs.Exact.{in_range}
 use Rattle.marking.specs.Sheet.{refused, marked}
 use Rattle.marking.specs.Typed.{typed_refusal, room_after}

@@ -1,4 +1,5 @@
 -- What the definitions say of the byte-level call, by the tests that it makes. Assumes nothing.
+use Rattle.std.specs.Prelude.{if◌then◌else◌}
 use mathlib.Core.Path.{◌≡◌, sym, ap, ◌∙◌, subst}
 use Prim.Native.Nat.{ℕ, zero, suc, ◌+◌, ◌*◌, ◌^◌, ◌≤◌, ◌<◌}
 use native.Mathlib.Omega.{arith}
@@ -8,7 +9,6 @@ use lib.Dec.{T, leb, ltb, eqb, nltb→le}
 use lib.ListN.{length, drop}
 use lib.Ieee.{Float, inf, Format, prec, emax, low, odd, units, round, is_nan}
 use lib.Ieee.Fits.{round_is}
-use Rattle.words.specs.Words.{if◌then◌else◌}
 use Rattle.numeric.specs.Exact.{in_range}
 use Rattle.marking.specs.Typed.{pattern_of, line_bytes, typed_refusal, typed_line, room_after}
 

@@ -1,9 +1,9 @@
 -- "3 other unit, 4 no number (NaN, infinite); unit is judged before 4": typed in the other unit, any float has verdict 3, and a NaN or an infinite one has 4 in the unit asked only. Assumes nothing.
+use Rattle.std.specs.Prelude.{if◌then◌else◌}
 use mathlib.Core.Path.{◌≡◌, refl, sym, ap, ◌∙◌}
 use Prim.Native.Nat.{ℕ}
 use mathlib.Core.Bool.{Bool, false, not}
 use lib.Dec.{T, eqb}
-use Rattle.words.specs.Words.{if◌then◌else◌}
 use Rattle.numeric.specs.Exact.{in_range, exact_answer, is_number, exact_value, right}
 use Rattle.marking.specs.Sheet.{unit_of, given_of, unit_asked, marked}
 use Rattle.marking.specs.declared.Answer.{Answer}

@@ -1,4 +1,5 @@
 -- Lines by the unit of the answer. Assumes nothing.
+use Rattle.std.specs.Prelude.{if◌then◌else◌}
 use mathlib.Core.Path.{◌≡◌, refl, sym, ap, ◌∙◌}
 use mathlib.Core.Logic.{inl, inr}
 use mathlib.Core.List.{[], ◌∷◌}
@@ -11,7 +12,6 @@ use borrow.Author.Tests.{eq-eqb, ne_eqb}
 use types.Run.{OneOf}
 use denote.Enum.Declared.{tag_of}
 use Rattle.marking.specs.contracts.Answer.{the_type}
-use Rattle.words.specs.Words.{if◌then◌else◌}
 use Rattle.numeric.specs.Exact.{exact_value, signed_error}
 use Rattle.numeric.specs.Nearest.{model_value}
 use Rattle.numeric.specs.Number.{number_verdict, error_at, line_at}

@@ -1,7 +1,6 @@
 -- Answers, verdicts and the sheet line. Definitions only.
-use Rattle.std.specs.Prelude.{ℕ, false, not, eqb, pos, Float}
+use Rattle.std.specs.Prelude.{ℕ, false, not, eqb, pos, Float, if◌then◌else◌}
 use Rattle.std.specs.Float.{fin}
-use Rattle.words.specs.Words.{if◌then◌else◌}
 use Rattle.numeric.specs.Exact.{in_range, exact_answer}
 use Rattle.numeric.specs.Number.{number_verdict, line_at}
 use Rattle.marking.specs.declared.Answer.{Answer}

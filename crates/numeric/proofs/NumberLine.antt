@@ -1,10 +1,10 @@
 -- The line of a number by whether it is one. Assumes nothing.
+use Rattle.std.specs.Prelude.{if◌then◌else◌}
 use mathlib.Core.Path.{◌≡◌, refl, sym, ap, ◌∙◌}
 use Prim.Native.Nat.{ℕ}
 use mathlib.Core.Bool.{Bool, true, false, not}
 use lib.IntN.{ℤ, pos}
 use lib.Ieee.{Float}
-use Rattle.words.specs.Words.{if◌then◌else◌}
 use Rattle.numeric.specs.Exact.{is_number, exact_value, right, signed_error}
 use Rattle.numeric.specs.Nearest.{model_value}
 use Rattle.numeric.specs.Number.{number_verdict, error_at, line_at}

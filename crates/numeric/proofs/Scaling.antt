@@ -1,4 +1,5 @@
 -- Scaling by powers of two: a fraction has the same cut values when both its sides are multiplied. Assumes nothing.
+use Rattle.std.specs.Prelude.{if◌then◌else◌}
 use mathlib.Core.Path.{◌≡◌, sym, ap, ◌∙◌}
 use mathlib.Core.Logic.{inl, inr}
 use Prim.Native.Nat.{ℕ, ◌+◌, ◌-◌, ◌*◌, ◌/◌, ◌%◌, ◌^◌, ◌≤◌, ◌<◌, min}
@@ -9,7 +10,6 @@ use lib.Dec.{eqb}
 use lib.Arith.{mod-mul}
 use lib.Pow.{pow_pos, pow-add, shl-shr}
 use borrow.Author.Tests.{eq-eqb, ne_eqb}
-use Rattle.words.specs.Words.{if◌then◌else◌}
 use Rattle.numeric.specs.Inner.{cut_down, cut_up}
 use Rattle.numeric.proofs.Cutting.{up_at, up_past}
 

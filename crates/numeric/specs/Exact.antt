@@ -1,8 +1,7 @@
 -- "Numbers typed by candidates": the exact answer, and how far a float lies from it, over whole numbers only. Definitions only.
-use Rattle.std.specs.Prelude.{ℕ, ◌+◌, ◌-◌, ◌*◌, ◌/◌, min, Bool, true, false, ◌&&◌, ◌||◌, leb, ltb, eqb, ℤ, pos, neg_ℤ, Float}
+use Rattle.std.specs.Prelude.{ℕ, ◌+◌, ◌-◌, ◌*◌, ◌/◌, min, Bool, true, false, ◌&&◌, ◌||◌, leb, ltb, eqb, ℤ, pos, neg_ℤ, Float, if◌then◌else◌}
 use Rattle.std.specs.Float.{nan, inf, fin}
 use Rattle.std.specs.Float.Ieee.{up, down}
-use Rattle.words.specs.Words.{if◌then◌else◌}
 use Rattle.numeric.specs.declared.exact.Fraction.{Fraction}
 
 -- "Kind 1: seconds to run D metres (1..20,000) at v km/h (1..200) .. Kind 2: metres run in T seconds (1..10,000) at v .. Tolerance: 0 to 10,000 thousandths."

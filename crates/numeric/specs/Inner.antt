@@ -1,6 +1,5 @@
 -- A reader need not believe this file: what the functions below the calls of marking say of their results. The promises of the calls do not cite it.
-use Rattle.std.specs.Prelude.{ℕ, ◌+◌, ◌-◌, ◌*◌, ◌/◌, ◌%◌, ◌^◌, ◌≤◌, ◌<◌, min, Bool, ◌↔◌, leb, ltb, eqb}
-use Rattle.words.specs.Words.{if◌then◌else◌}
+use Rattle.std.specs.Prelude.{ℕ, ◌+◌, ◌-◌, ◌*◌, ◌/◌, ◌%◌, ◌^◌, ◌≤◌, ◌<◌, min, Bool, ◌↔◌, leb, ltb, eqb, if◌then◌else◌}
 use Rattle.numeric.specs.Exact.{Value}
 use Rattle.numeric.specs.declared.exact.Fraction.{Fraction}
 use Rattle.numeric.specs.declared.judged.Parts.{Parts}

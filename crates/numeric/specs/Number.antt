@@ -1,6 +1,5 @@
 -- The sheet line of a number: verdict and error by the exact answer. Definitions only.
-use Rattle.std.specs.Prelude.{ℕ, not, leb, ℤ, pos, Float}
-use Rattle.words.specs.Words.{if◌then◌else◌}
+use Rattle.std.specs.Prelude.{ℕ, not, leb, ℤ, pos, Float, if◌then◌else◌}
 use Rattle.numeric.specs.Exact.{is_number, exact_value, right, signed_error}
 use Rattle.numeric.specs.Nearest.{model_value}
 use Rattle.numeric.specs.declared.Line.{Line}

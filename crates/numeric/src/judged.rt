@@ -1,9 +1,8 @@
 // A number typed in the unit asked, judged against the exact answer.
-ghost use Rattle.std.specs.Prelude.{◌≡◌, pos, ◌*◌, ◌^◌, ◌≤◌, ◌<◌, min};
+ghost use Rattle.std.specs.Prelude.{◌≡◌, pos, ◌*◌, ◌^◌, ◌≤◌, ◌<◌, min, if◌then◌else◌};
 ghost use Rattle.numeric.specs.Exact.{signed, distance, below};
 ghost use Rattle.numeric.specs.Nearest.{model_value};
 ghost use Rattle.numeric.specs.Number.{number_verdict, line_at};
-ghost use Rattle.words.specs.Words.{if◌then◌else◌};
 ghost use Rattle.numeric.specs.Inner.{Small, Cuts, value_of, negative_of, digits_of, power_of};
 
 use super::Line;

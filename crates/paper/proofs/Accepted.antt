@@ -1,4 +1,5 @@
 -- What an accepted question meets, and what a question is answered with that fails a check. Assumes nothing.
+use Rattle.std.specs.Prelude.{if◌then◌else◌}
 use Prim.Native.Nat.{ℕ, ◌≤◌}
 use mathlib.Core.Path.{◌≡◌, sym, ap, ◌∙◌}
 use mathlib.Core.Bool.{Bool, true, false}
@@ -6,7 +7,7 @@ use native.Mathlib.Omega.{arith}
 use borrow.Author.Tests.{leb-true, le-leb, ne_eqb}
 use lib.ListN.{length}
 use lib.Dec.{T, eqb, leb}
-use Rattle.words.specs.Words.{◌and◌, if◌then◌else◌}
+use Rattle.words.specs.Words.{◌and◌}
 use Rattle.forms.proofs.Reading.{both}
 use Rattle.rulebook.specs.Judged.{judged}
 use Rattle.block.specs.Line.{is_plan}

@@ -1,4 +1,5 @@
 -- What bytes are read as: a question that is accepted, or zeros and the refusal. Assumes nothing.
+use Rattle.std.specs.Prelude.{if◌then◌else◌}
 use Prim.Native.Nat.{ℕ}
 use mathlib.Core.Path.{◌≡◌, refl, ap, ◌∙◌}
 use mathlib.Core.Bool.{Bool, true, false}
@@ -6,7 +7,6 @@ use mathlib.Core.List.{List}
 use native.Mathlib.Omega.{arith}
 use borrow.Author.Tests.{eqb-true}
 use lib.Dec.{eqb}
-use Rattle.words.specs.Words.{if◌then◌else◌}
 use Rattle.forms.specs.Whole.{Whole, refused as no_form, accepted, whole}
 use Rattle.records.specs.Question.{Parts, question}
 use Rattle.paper.specs.Question.{Question, question_of}

@@ -1,6 +1,5 @@
 -- What bytes are read as. "Every refusal returns its number and zeros."
-use Rattle.std.specs.Prelude.{ℕ, false, List, [], eqb}
-use Rattle.words.specs.Words.{if◌then◌else◌}
+use Rattle.std.specs.Prelude.{ℕ, false, List, [], eqb, if◌then◌else◌}
 use Rattle.forms.specs.Whole.{Whole, refused as no_form, accepted, whole}
 use Rattle.rulebook.specs.Situation.{fresh, with_link}
 use Rattle.records.specs.Plan.{plan_of}

@@ -1,6 +1,7 @@
 -- A piece by cases: nothing, the refusal, the last lines with the total, or lines. From the definition.
+use Rattle.std.specs.Prelude.{if◌then◌else◌}
 use Rattle.std.proofs.Common.{◌≡◌, ℕ, ◌<◌, ◌≤◌, Bool, true, false, eqb, ltb, leb, List, [], length, refl, arith, ltb-false, eq-eqb, eqb-true, leb-false}
-use Rattle.words.specs.Words.{◌or◌, if◌then◌else◌}
+use Rattle.words.specs.Words.{◌or◌}
 use Rattle.keylaws.specs.Continuation.{is_continuation}
 use Rattle.keylaws.proofs.Tests.{never}
 use Rattle.keytext.specs.Text.{refused}

@@ -1,6 +1,5 @@
 -- The whole text that the key program prints for the bytes on its standard input.
-use Rattle.std.specs.Prelude.{◌≡◌, ℕ, List, ◌++◌, length, take, ◌==◌}
-use Rattle.words.specs.Words.{if◌then◌else◌}
+use Rattle.std.specs.Prelude.{◌≡◌, ℕ, List, ◌++◌, length, take, ◌==◌, if◌then◌else◌}
 use Rattle.keytext.specs.Text.{lines, total, refused}
 use Rattle.paper.specs.Question.{Question}
 use Rattle.paper.specs.Read.{read_of}

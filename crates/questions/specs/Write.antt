@@ -1,6 +1,5 @@
 -- "Writing an accepted question into lent room (the call returns its length, later bytes keep their values; any other question gets its refusal)"
-use Rattle.std.specs.Prelude.{ℕ, List, length, eqb, leb}
-use Rattle.words.specs.Words.{if◌then◌else◌}
+use Rattle.std.specs.Prelude.{ℕ, List, length, eqb, leb, if◌then◌else◌}
 use Rattle.forms.specs.Form.{laid}
 use Rattle.lists.specs.Refusal.{◌unless◌, ◌or_else◌}
 use Rattle.paper.specs.Question.{Question, written}

@@ -1,8 +1,8 @@
 -- The letters of a plan say its edition (02, Req 05). Assumes nothing.
+use Rattle.std.specs.Prelude.{if◌then◌else◌}
 use mathlib.Core.Path.{◌≡◌, refl, sym, ap, ◌∙◌}
 use mathlib.Core.Bool.{Bool, true, false}
 use borrow.Author.Tests.{ne_eqb}
-use Rattle.words.specs.Words.{if◌then◌else◌}
 use Rattle.forms.specs.Compose.{stands}
 use Rattle.forms.specs.Whole.{whole}
 use Rattle.forms.proofs.Whole as Whole

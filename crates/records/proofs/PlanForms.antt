@@ -1,11 +1,12 @@
 -- LB or LC: LB can say the plans of 2024, LC those of 2012, so every plan has its record; how long it is. Assumes nothing.
+use Rattle.std.specs.Prelude.{if◌then◌else◌}
 use Prim.Native.Nat.{◌≤◌}
 use mathlib.Core.Path.{◌≡◌, refl, ap, ◌∙◌}
 use mathlib.Core.Bool.{Bool, true, false, not}
 use native.Mathlib.Omega.{arith}
 use lib.ListN.{length}
 use lib.Dec.{eqb}
-use Rattle.words.specs.Words.{◌or◌, if◌then◌else◌, flag}
+use Rattle.words.specs.Words.{◌or◌, flag}
 use Rattle.block.specs.declared.line.Plan.{Plan}
 use Rattle.records.specs.Plan.{of_2024, of_2012, plan}
 use Rattle.records.specs.InBytes.{plan_size}

@@ -1,4 +1,5 @@
 -- LB or LC, as the code finds it. Assumes nothing.
+use Rattle.std.specs.Prelude.{if◌then◌else◌}
 use Prim.Native.Nat.{ℕ, ◌≤◌}
 use mathlib.Core.Path.{◌≡◌, refl, sym, ap, ◌∙◌}
 use mathlib.Core.Bool.{Bool, true, false, not}
@@ -8,7 +9,6 @@ use borrow.Author.Tests.{eqb-true, eq-eqb, ne_eqb}
 use lib.ListN.{length, drop, get_or, length-drop}
 use lib.Seq.{get_or-drop}
 use lib.Dec.{eqb}
-use Rattle.words.specs.Words.{if◌then◌else◌}
 use Rattle.forms.specs.Form.{nothing, found}
 use Rattle.forms.specs.Choices.{always}
 use Rattle.forms.proofs.Lettered.{letters_law}

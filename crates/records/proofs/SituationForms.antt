@@ -1,10 +1,11 @@
 -- SI or SJ: the codes that SI can say are those with both mark and count zero; how long the record is, and its bytes. Assumes nothing.
+use Rattle.std.specs.Prelude.{if◌then◌else◌}
 use Prim.Native.Nat.{◌≤◌}
 use mathlib.Core.Path.{◌≡◌, refl, sym, ap, ◌∙◌}
 use mathlib.Core.Bool.{Bool, true, false}
 use native.Mathlib.Omega.{arith}
 use lib.ListN.{length, take}
-use Rattle.words.specs.Words.{◌and◌, ◌or◌, if◌then◌else◌}
+use Rattle.words.specs.Words.{◌and◌, ◌or◌}
 use Rattle.forms.specs.Compose.{section}
 use Rattle.forms.proofs.Reading.{both}
 use Rattle.records.specs.Situation.{Codes, without_watch, with_watch, situation}

@@ -1,6 +1,6 @@
 -- A reader need not believe this file: records as the code has them, in bytes. proofs/InBytes shows that they are what the forms write.
-use Rattle.std.specs.Prelude.{ℕ, ◌-◌, Bool, List, [], ◌∷◌, take, drop, get_or, eqb}
-use Rattle.words.specs.Words.{◌and◌, if◌then◌else◌}
+use Rattle.std.specs.Prelude.{ℕ, ◌-◌, Bool, List, [], ◌∷◌, take, drop, get_or, eqb, if◌then◌else◌}
+use Rattle.words.specs.Words.{◌and◌}
 use Rattle.rulebook.specs.Apply.{event}
 use Rattle.block.specs.declared.line.Plan.{Plan}
 use Rattle.block.specs.declared.event.Event.{Event}

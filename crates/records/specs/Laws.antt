@@ -1,6 +1,5 @@
 -- What is proved of the letters of a plan: each law as a statement, proved under the same name in proofs/Editions. (02, Req 05)
-use Rattle.std.specs.Prelude.{ℕ, ◌≡◌, true, false, List, [], ◌∷◌}
-use Rattle.words.specs.Words.{if◌then◌else◌}
+use Rattle.std.specs.Prelude.{ℕ, ◌≡◌, true, false, List, [], ◌∷◌, if◌then◌else◌}
 use Rattle.block.specs.declared.line.Plan.{Plan}
 use Rattle.forms.specs.Compose.{stands}
 use Rattle.forms.specs.Whole.{refused, accepted, whole}

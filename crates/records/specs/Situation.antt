@@ -1,8 +1,8 @@
 -- "SI, 19 bytes": "link; orientation A, B; annulment A, B; exit A, B; entry A, B; pending; BILC, BSLG, reminder as bits (1 A, 2 B); occupied,
 -- held towards B, held towards A, each two bytes, low byte first, bit k-1 for section k." The situation is kept as A sees it.
 -- 02, Req 02: "Record SJ is SI with the mark and the count added, a byte each; SI means both zero." "20 for SJ with both zero."
-use Rattle.std.specs.Prelude.{ℕ, ◌+◌, ◌*◌, ◌/◌, ◌%◌, Bool, true, false, eqb, leb}
-use Rattle.words.specs.Words.{◌and◌, if◌then◌else◌, flag}
+use Rattle.std.specs.Prelude.{ℕ, ◌+◌, ◌*◌, ◌/◌, ◌%◌, Bool, true, false, eqb, leb, if◌then◌else◌}
+use Rattle.words.specs.Words.{◌and◌, flag}
 use Rattle.rulebook.specs.Situation.{Station, Kept, fresh, with_link, with_pending}
 use Rattle.block.specs.Codes.{orientation_code, annulment_code, route_code, pending_code}
 use Rattle.block.specs.declared.codes.Orientation.{Orientation}

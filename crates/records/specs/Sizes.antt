@@ -1,6 +1,6 @@
 -- A reader need not believe this file: how many bytes the code finds, in its words. proofs/ show that the forms take as many.
-use Rattle.std.specs.Prelude.{ℕ, ◌+◌, ◌*◌, Bool, List, length, get_or, leb}
-use Rattle.words.specs.Words.{◌and◌, if◌then◌else◌}
+use Rattle.std.specs.Prelude.{ℕ, ◌+◌, ◌*◌, Bool, List, length, get_or, leb, if◌then◌else◌}
+use Rattle.words.specs.Words.{◌and◌}
 use Rattle.forms.specs.declared.Letters.{Letters}
 use Rattle.forms.specs.Compose.{stands}
 

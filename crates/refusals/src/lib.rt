@@ -1,7 +1,7 @@
 // What refuses each event, own being the station that the event names: "Checks run in the order written; the first that fails
 // gives the refusal." Of AFBLI, AFBLE, BILC and BSLB what refuses it in 2024, and apart from it what 2012 adds.
-ghost use Rattle.std.specs.Prelude.{◌≡◌, not};
-ghost use Rattle.words.specs.Words.{◌and◌, if◌then◌else◌};
+ghost use Rattle.std.specs.Prelude.{◌≡◌, not, if◌then◌else◌};
+ghost use Rattle.words.specs.Words.{◌and◌};
 ghost use Rattle.refusals.specs.InOrder.{check};
 ghost use Rattle.rulebook.specs.Situation.{station, ◌is_in, ◌annulled, ◌has_exit_route, track_free};
 ghost use Rattle.rulebook.specs.Place.{held_in_area};

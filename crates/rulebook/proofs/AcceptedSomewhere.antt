@@ -1,10 +1,11 @@
 -- Each event is accepted from some sound situation of the plan 4, 2 of either edition: a line for each code, and one computed test for each edition.
 -- Assumes nothing.
+use Rattle.std.specs.Prelude.{if◌then◌else◌}
 use Prim.Native.Nat.{ℕ}
 use mathlib.Core.Bool.{Bool, true, false}
 use mathlib.Core.Path.{refl, subst}
 use lib.Dec.{T, eqb, eqb→eq}
-use Rattle.words.specs.Words.{◌and◌, if◌then◌else◌}
+use Rattle.words.specs.Words.{◌and◌}
 use Rattle.words.proofs.Tests.{and_at}
 use Rattle.rulebook.specs.Situation.{Kept, fresh, blank, out, inward, AFBLI, normal, ◌becomes◌, ◌annulled_by◌, ◌with_exit◌, with_entry, with_bilc, with_bslg, with_reminder, with_link, with_own_station, with_stations, with_pending, with_track, no_watch, with_held}
 use Rattle.rulebook.specs.Sound.{sound}

@@ -1,11 +1,12 @@
 -- (02, Req 01) The checks 13 and 15 together are document 01's one check wherever they are reached: every event is accepted where it was,
 -- leads where it led, and is refused with the number that it had, but that 15 was 13. Assumes nothing.
+use Rattle.std.specs.Prelude.{if◌then◌else◌}
 use Prim.Native.Nat.{ℕ}
 use mathlib.Core.Bool.{Bool, true, false, not}
 use mathlib.Core.Path.{◌≡◌, refl, sym, ap, subst, ◌∙◌}
 use borrow.Author.Tests.{eqb-true}
 use lib.Dec.{T, eqb}
-use Rattle.words.specs.Words.{◌and◌, ◌or◌, if◌then◌else◌}
+use Rattle.words.specs.Words.{◌and◌, ◌or◌}
 use Rattle.words.proofs.Tests.{and_at, fails_is}
 use Rattle.rulebook.specs.Situation.{Situation, Kept, seen_from, kept_from, ◌is_in, ◌is_none, ◌annulled, ◌under_AFBLE, ◌has_exit_route, track_free, line_free}
 use Rattle.rulebook.specs.Checks.{Row, ⟶◌, ◌┃◌, ◌when◌, enough_when◌, refusal}

@@ -1,10 +1,11 @@
 -- (02, Req 02) While a count runs the line is not free, and a section that becomes occupied turns no orientation. Assumes nothing.
+use Rattle.std.specs.Prelude.{if◌then◌else◌}
 use Prim.Native.Nat.{ℕ}
 use mathlib.Core.Bool.{Bool, true, false, not}
 use mathlib.Core.Path.{◌≡◌, refl, ap, ◌∙◌}
 use borrow.Author.Tests.{eqb-true, eqb-false}
 use lib.Dec.{eqb}
-use Rattle.words.specs.Words.{◌and◌, if◌then◌else◌}
+use Rattle.words.specs.Words.{◌and◌}
 use Rattle.words.proofs.Tests.{and_false}
 use Rattle.rulebook.specs.Situation.{Track, Situation, Kept, out, inward, seen_from, station, any_exit_route, count_runs, none_occupied, ◌is_in}
 use Rattle.rulebook.specs.Place.{Place, place}

@@ -1,12 +1,13 @@
 -- (02, Req 05) In 2024 every event is judged, and leads, by the rows and the soundness of document 01: the new checks ask for the edition first. In
 -- 2012 the checks that are added come after those. Assumes nothing.
+use Rattle.std.specs.Prelude.{if◌then◌else◌}
 use Prim.Native.Nat.{ℕ, zero, suc}
 use mathlib.Core.Bool.{Bool, true, false, not, true≢false}
 use mathlib.Core.Path.{◌≡◌, refl, sym, ap, ap₂, subst, ◌∙◌}
 use native.Mathlib.Omega.{arith}
 use borrow.Author.Tests.{ne_eqb, eqb-true}
 use lib.Dec.{T, eqb}
-use Rattle.words.specs.Words.{◌or◌, if◌then◌else◌}
+use Rattle.words.specs.Words.{◌or◌}
 use Rattle.words.proofs.Tests.{and_true, is_holds, fails_is}
 use Rattle.sections.specs.Sections.{◌belongs_to◌}
 use Rattle.block.specs.Line.{is_plan}

@@ -1,12 +1,13 @@
 -- (02, Req 05) Every accepted event keeps apart what 2012 keeps apart: by reasoning on what it writes of annulment, BILC, BSLG and the held signals.
 -- Assumes nothing.
+use Rattle.std.specs.Prelude.{if◌then◌else◌}
 use Prim.Native.Nat.{ℕ, ◌≤◌, ◌<◌}
 use mathlib.Core.Bool.{Bool, true, false, not, true≢false, false≢true}
 use mathlib.Core.Path.{◌≡◌, refl, sym, ap, ap₂, subst, ◌∙◌}
 use native.Mathlib.Decide.{ℕ_discrete}
 use native.Mathlib.Omega.{arith}
 use lib.Dec.{T, eqb, eqb→eq}
-use Rattle.words.specs.Words.{◌and◌, ◌or◌, ◌implies◌, if◌then◌else◌}
+use Rattle.words.specs.Words.{◌and◌, ◌or◌, ◌implies◌}
 use Rattle.words.proofs.Tests.{is_holds, holds_is, fails_is, both_off, not_equal, if_case}
 use Rattle.sections.specs.Sections.{◌belongs_to◌, ◌with_section◌, ◌without_section◌}
 use Rattle.sections.proofs.SetLaws.{has_with_other, has_without_same, has_without_other}

@@ -1,10 +1,11 @@
 -- What each event writes and what it leaves, of every kind of the table: each law is an equation of two lists that antt computes.
 -- Where a new event writes a field that stands here, its code joins that law; else nothing is added. Assumes nothing.
+use Rattle.std.specs.Prelude.{if◌then◌else◌}
 use Prim.Native.Nat.{ℕ}
 use mathlib.Core.Bool.{Bool, true, false, not}
 use mathlib.Core.Path.{◌≡◌, refl, ap}
 use lib.Dec.{T, eqb}
-use Rattle.words.specs.Words.{◌and◌, ◌or◌, if◌then◌else◌}
+use Rattle.words.specs.Words.{◌and◌, ◌or◌}
 use Rattle.words.proofs.Tests.{and_at}
 use Rattle.sections.specs.Sections.{◌with_section◌, ◌without_section◌}
 use Rattle.rulebook.specs.Checks.{effect}

@@ -1,9 +1,9 @@
 -- A plan and a situation sound in it are judged 0, and nothing else is. Assumes nothing.
+use Rattle.std.specs.Prelude.{if◌then◌else◌}
 use Prim.Native.Nat.{ℕ}
 use mathlib.Core.Path.{◌≡◌, refl}
 use native.Mathlib.Omega.{arith}
 use lib.Dec.{T}
-use Rattle.words.specs.Words.{if◌then◌else◌}
 use Rattle.words.proofs.Tests.{if_case, holds_is}
 use Rattle.block.specs.Line.{is_plan}
 use Rattle.block.specs.declared.line.Plan.{Plan}

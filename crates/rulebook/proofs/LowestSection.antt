@@ -1,11 +1,11 @@
 -- The lowest of some sections in a set is in it, and none of them below it is; 0 only where none is in it. Assumes nothing.
+use Rattle.std.specs.Prelude.{if◌then◌else◌}
 use Prim.Native.Nat.{ℕ, zero, suc, ◌+◌, ◌≤◌, ◌<◌}
 use mathlib.Core.Bool.{Bool, true, false}
 use mathlib.Core.Logic.{◌⊎◌, inl, inr}
 use mathlib.Core.Path.{◌≡◌, refl, sym, ap, ◌∙◌}
 use native.Mathlib.Decide.{ℕ_discrete}
 use native.Mathlib.Omega.{arith}
-use Rattle.words.specs.Words.{if◌then◌else◌}
 use Rattle.sections.specs.Sections.{none, ◌belongs_to◌}
 use Rattle.sections.proofs.SetLaws.{none_has}
 use Rattle.rulebook.specs.Names.{lowest_from}

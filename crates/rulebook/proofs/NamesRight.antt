@@ -1,5 +1,6 @@
 -- (02, Req 01) What refusals name: 13 the lowest occupied section, or 0 where a count runs alone (Req 02), 9 a station that has an exit route, every other number nothing; and that 15 is for
 -- a free track with an exit route at the other station. Assumes nothing.
+use Rattle.std.specs.Prelude.{if◌then◌else◌}
 use Prim.Native.Nat.{ℕ, ◌≤◌, ◌<◌}
 use mathlib.Core.Bool.{Bool, true, false, not, false≢true}
 use mathlib.Core.Logic.{◌⊎◌, inl, inr, ⊎_elim}
@@ -8,7 +9,7 @@ use native.Mathlib.Decide.{dec_lt}
 use native.Mathlib.Omega.{arith}
 use borrow.Author.Tests.{not-true, not-false, eq-eqb, ne_eqb, eqb-false, eqb-true, le-leb}
 use lib.Dec.{T, eqb, leb, eqb→eq, leb→le}
-use Rattle.words.specs.Words.{◌and◌, ◌or◌, if◌then◌else◌}
+use Rattle.words.specs.Words.{◌and◌, ◌or◌}
 use Rattle.words.proofs.Tests.{and_at, and_of, or_at, twice_not, holds_is, is_holds, if_case}
 use Rattle.sections.specs.Sections.{none, ◌belongs_to◌, sections_up_to}
 use Rattle.sections.proofs.SetLaws.{no_sections, none_outside}

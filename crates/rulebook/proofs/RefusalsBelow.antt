@@ -1,9 +1,10 @@
 -- Every number that an event is refused with is below 20: 20 and above are a question's, a continuation's, a room's. Assumes nothing.
+use Rattle.std.specs.Prelude.{if◌then◌else◌}
 use Prim.Native.Nat.{ℕ, ◌<◌}
 use mathlib.Core.Bool.{Bool, true, not}
 use native.Mathlib.Omega.{arith}
 use lib.Dec.{T, eqb, ltb, ltb→lt}
-use Rattle.words.specs.Words.{◌and◌, if◌then◌else◌}
+use Rattle.words.specs.Words.{◌and◌}
 use Rattle.words.proofs.Tests.{and_at, if_case}
 use Rattle.block.specs.Line.{is_plan}
 use Rattle.rulebook.specs.Situation.{Situation, Kept, seen_from}

@@ -1,7 +1,8 @@
 -- An event that leaves both orientations and is not named in the rule leaves pending to its effect. Assumes nothing.
+use Rattle.std.specs.Prelude.{if◌then◌else◌}
 use mathlib.Core.Path.{◌≡◌, refl, sym, ap, ap₂, ◌∙◌}
 use mathlib.Core.Bool.{Bool, true, false}
-use Rattle.words.specs.Words.{◌or◌, if◌then◌else◌}
+use Rattle.words.specs.Words.{◌or◌}
 use Rattle.rulebook.specs.Situation.{Situation, nobody, with_pending}
 use Rattle.rulebook.specs.Pending.{differ, changes, pending_settled}
 use Rattle.block.specs.declared.codes.Orientation.{Orientation}

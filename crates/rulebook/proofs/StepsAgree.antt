@@ -1,9 +1,9 @@
 -- Along every run from a sound situation `stepped` and `applied` agree. Assumes nothing.
+use Rattle.std.specs.Prelude.{if◌then◌else◌}
 use Prim.Native.Nat.{ℕ}
 use mathlib.Core.List.{List, [], ◌∷◌}
 use mathlib.Core.Path.{◌≡◌, refl, sym, ap, ◌∙◌}
 use lib.Dec.{T, eqb}
-use Rattle.words.specs.Words.{if◌then◌else◌}
 use Rattle.block.specs.Line.{is_plan}
 use Rattle.rulebook.specs.Situation.{Kept}
 use Rattle.rulebook.specs.Sound.{sound}

@@ -1,9 +1,10 @@
 -- (02, Req 02) Where each event leads, the watch is what its code says: an equation of two lists that antt computes. Assumes nothing.
+use Rattle.std.specs.Prelude.{if◌then◌else◌}
 use Prim.Native.Nat.{ℕ, ◌-◌}
 use mathlib.Core.Bool.{Bool, false, not}
 use mathlib.Core.Path.{◌≡◌, refl}
 use lib.Dec.{eqb}
-use Rattle.words.specs.Words.{◌and◌, ◌or◌, if◌then◌else◌}
+use Rattle.words.specs.Words.{◌and◌, ◌or◌}
 use Rattle.rulebook.specs.Situation.{Watch, Situation, any_exit_route, none_occupied}
 use Rattle.rulebook.specs.Checks.{effect}
 use Rattle.rulebook.specs.Place.{Place}

@@ -1,4 +1,5 @@
 -- (02, Req 02) Every event keeps the clauses on mark and count: by reasoning on what it does to the track, not by counting. Assumes nothing.
+use Rattle.std.specs.Prelude.{if◌then◌else◌}
 use Prim.Native.Nat.{ℕ, ◌≤◌, ◌<◌}
 use mathlib.Core.Bool.{Bool, true, false, not, true≢false, false≢true}
 use mathlib.Core.Path.{◌≡◌, refl, sym, ap, ap₂, subst, ◌∙◌}
@@ -6,7 +7,7 @@ use native.Mathlib.Omega.{arith}
 use borrow.Author.Tests.{eq-eqb, ne_eqb, eqb-true, eqb-false, le-leb}
 use lib.Bits.{and_zero_l, xor_zero_l}
 use lib.Dec.{T, eqb, leb→le}
-use Rattle.words.specs.Words.{◌and◌, ◌or◌, ◌implies◌, if◌then◌else◌}
+use Rattle.words.specs.Words.{◌and◌, ◌or◌, ◌implies◌}
 use Rattle.words.proofs.Tests.{holds_is, fails_is, is_holds, and_at, and_of, both_off, or_turned}
 use Rattle.sections.specs.Sections.{none, ◌belongs_to◌, only, ◌with_section◌, ◌without_section◌}
 use Rattle.sections.proofs.SetLaws.{has_with_same, none_has}

@@ -1,4 +1,5 @@
 -- (02, Req 02) What becomes of mark and count by every accepted event, and the ten seconds. Assumes nothing.
+use Rattle.std.specs.Prelude.{if◌then◌else◌}
 use Prim.Native.Nat.{ℕ, zero, suc, ◌-◌, ◌≤◌, ◌<◌}
 use mathlib.Core.Bool.{Bool, true, false, not}
 use mathlib.Core.Path.{◌≡◌, refl, sym, ap, ap₂, subst, ◌∙◌}
@@ -6,7 +7,7 @@ use native.Mathlib.Decide.{ℕ_discrete}
 use native.Mathlib.Omega.{arith}
 use borrow.Author.Tests.{eq-eqb, ne_eqb, lt-leb}
 use lib.Dec.{T, eqb}
-use Rattle.words.specs.Words.{◌and◌, if◌then◌else◌}
+use Rattle.words.specs.Words.{◌and◌}
 use Rattle.words.proofs.Tests.{holds_is, and_true, or_turned}
 use Rattle.sections.specs.Sections.{none, ◌belongs_to◌, only, ◌without_section◌}
 use Rattle.sections.proofs.SetLaws.{has_without_same, has_without_other, no_sections}

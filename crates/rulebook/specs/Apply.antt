@@ -1,6 +1,6 @@
 -- "An event is two bytes, code and argument." An event applied: "Order: .. 1, 2, 3, 4, .. then the event's own."
-use Rattle.std.specs.Prelude.{ℕ, Bool, not, List, [], ◌∷◌, eqb, leb}
-use Rattle.words.specs.Words.{◌or◌, if◌then◌else◌}
+use Rattle.std.specs.Prelude.{ℕ, Bool, not, List, [], ◌∷◌, eqb, leb, if◌then◌else◌}
+use Rattle.words.specs.Words.{◌or◌}
 use Rattle.block.specs.Line.{is_section, owner, station_named, direction_of, section_of, is_block_signal}
 use Rattle.rulebook.specs.Situation.{Situation, Kept, seen_from, kept_from}
 use Rattle.rulebook.specs.Judged.{judged}

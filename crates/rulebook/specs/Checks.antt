@@ -1,6 +1,5 @@
 -- A row of the document's table: the refusals, numbered tests in the order in which they run, and then the effect.
-use Rattle.std.specs.Prelude.{ℕ, Bool}
-use Rattle.words.specs.Words.{if◌then◌else◌}
+use Rattle.std.specs.Prelude.{ℕ, Bool, if◌then◌else◌}
 use Rattle.rulebook.specs.Situation.{Situation}
 
 infix 30 ◌when◌

@@ -1,7 +1,7 @@
 -- A reader need not believe this file: the rows of 2024 by themselves, and what 2012 adds to them (02, Req 05), as the code asks for them and as the
 -- laws of both editions say.
-use Rattle.std.specs.Prelude.{ℕ, true, not, eqb}
-use Rattle.words.specs.Words.{◌or◌, if◌then◌else◌}
+use Rattle.std.specs.Prelude.{ℕ, true, not, eqb, if◌then◌else◌}
+use Rattle.words.specs.Words.{◌or◌}
 use Rattle.sections.specs.Sections.{◌belongs_to◌, ◌with_section◌}
 use Rattle.rulebook.specs.Situation.{Station, Situation, Kept, station, held, AFBLI, AFBLE, with_own_station, with_bilc, with_held, ◌annulled, ◌has_exit_route}
 use Rattle.rulebook.specs.Checks.{Row, ⟶◌, ◌┃◌, ◌when◌}

@@ -1,7 +1,7 @@
 -- Orders and happenings, a row of the table each. x is the situation as the station named sees it: "own" is that station, "other" its
 -- neighbour; at is where the event happens. What becomes of a pending SOBB is said once, in Pending.
-use Rattle.std.specs.Prelude.{ℕ, ◌-◌, Bool, true, false, not, eqb}
-use Rattle.words.specs.Words.{◌and◌, ◌or◌, if◌then◌else◌}
+use Rattle.std.specs.Prelude.{ℕ, ◌-◌, Bool, true, false, not, eqb, if◌then◌else◌}
+use Rattle.words.specs.Words.{◌and◌, ◌or◌}
 use Rattle.sections.specs.Sections as sections
 use Rattle.sections.specs.Sections.{◌belongs_to◌, ◌with_section◌, ◌without_section◌}
 use Rattle.rulebook.specs.Checks.{Row, ⟶◌, ◌┃◌, ◌when◌, enough_when◌}

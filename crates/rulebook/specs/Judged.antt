@@ -1,6 +1,5 @@
 -- "0 is accepted. 1 plan; 2 situation not sound"
-use Rattle.std.specs.Prelude.{ℕ}
-use Rattle.words.specs.Words.{if◌then◌else◌}
+use Rattle.std.specs.Prelude.{ℕ, if◌then◌else◌}
 use Rattle.block.specs.Line.{is_plan}
 use Rattle.rulebook.specs.Sound.{sound}
 use Rattle.block.specs.declared.line.Plan.{Plan}

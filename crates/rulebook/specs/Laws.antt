@@ -1,7 +1,7 @@
 -- What is proved of every event of the block: each law as a statement, proved under the same name in proofs/.
-use Rattle.std.specs.Prelude.{ℕ, zero, suc, ◌-◌, ◌<◌, Bool, true, false, not, List, [], ◌∷◌, ◌⊎◌, ◌≡◌, T, eqb}
+use Rattle.std.specs.Prelude.{ℕ, zero, suc, ◌-◌, ◌<◌, Bool, true, false, not, List, [], ◌∷◌, ◌⊎◌, ◌≡◌, T, eqb, if◌then◌else◌}
 use Rattle.std.specs.Bool.{beq}
-use Rattle.words.specs.Words.{◌and◌, ◌or◌, if◌then◌else◌}
+use Rattle.words.specs.Words.{◌and◌, ◌or◌}
 use Rattle.sections.specs.Sections.{◌belongs_to◌, only}
 use Rattle.block.specs.Line.{is_plan, is_section, owner, opposite}
 use Rattle.rulebook.specs.Situation.{Station, Situation, Kept, area_direction, fresh, nobody, seen_from, kept_from, station, held, any_exit_route, both_out, none_occupied, count_runs, track_free, line_free, with_stations, with_track, with_this_watch, normal, special, ◌is_out, ◌is_in, ◌is_none, ◌annulled, ◌under_AFBLI, ◌under_AFBLE, ◌has_exit_route}

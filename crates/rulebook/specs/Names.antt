@@ -1,6 +1,6 @@
 -- (02, Req 01) What a refusal names, asked after it: "The name replaces one of 01's zeros."
-use Rattle.std.specs.Prelude.{ℕ, zero, suc, ◌+◌, Bool, eqb}
-use Rattle.words.specs.Words.{◌or◌, if◌then◌else◌}
+use Rattle.std.specs.Prelude.{ℕ, zero, suc, ◌+◌, Bool, eqb, if◌then◌else◌}
+use Rattle.words.specs.Words.{◌or◌}
 use Rattle.sections.specs.Sections.{◌belongs_to◌}
 use Rattle.block.specs.Line.{station_named}
 use Rattle.rulebook.specs.Situation.{Kept, station, ◌has_exit_route}

@@ -1,7 +1,7 @@
 -- "Pending is cleared by any orientation change, any accepted AFBLI/AFBLE, any section becoming occupied, and link loss."
-use Rattle.std.specs.Prelude.{Bool, not}
+use Rattle.std.specs.Prelude.{Bool, not, if◌then◌else◌}
 use Rattle.std.specs.Bool.{beq}
-use Rattle.words.specs.Words.{◌or◌, if◌then◌else◌}
+use Rattle.words.specs.Words.{◌or◌}
 use Rattle.rulebook.specs.Situation.{Situation, nobody, with_pending}
 use Rattle.block.specs.declared.codes.Orientation.{Orientation}
 

@@ -1,6 +1,6 @@
 -- The situation, in the document's words. Its parts: traffic (link, stations, pending SOBB, track) and signals.
-use Rattle.std.specs.Prelude.{ℕ, Bool, true, false, not, eqb}
-use Rattle.words.specs.Words.{◌and◌, ◌or◌, if◌then◌else◌}
+use Rattle.std.specs.Prelude.{ℕ, Bool, true, false, not, eqb, if◌then◌else◌}
+use Rattle.words.specs.Words.{◌and◌, ◌or◌}
 use Rattle.sections.specs.Sections as sections
 use Rattle.block.specs.declared.line.Name.{Name}
 use Rattle.block.specs.declared.line.Name.TheVariants.{StationA, StationB}

@@ -1,7 +1,6 @@
 -- THE table: a kind of event for each code. Which codes are known, what an argument names, whether pending goes, and the row: all is read
 -- off it.
-use Rattle.std.specs.Prelude.{ℕ, Bool, true, false, List, [], ◌∷◌, eqb}
-use Rattle.words.specs.Words.{if◌then◌else◌}
+use Rattle.std.specs.Prelude.{ℕ, Bool, true, false, List, [], ◌∷◌, eqb, if◌then◌else◌}
 use Rattle.rulebook.specs.Checks.{Row, ⟶◌, ◌┃◌, ◌when◌}
 use Rattle.rulebook.specs.Place.{Place}
 use Rattle.rulebook.specs.Situation.{Situation}

@@ -1,5 +1,6 @@
 -- All readings hold exactly in the situations that are what they ask put together, where from the first aspect on the aspects hold.
 -- Assumes nothing.
+use Rattle.std.specs.Prelude.{if◌then◌else◌}
 use Prim.Native.Nat.{ℕ, ◌/◌, ◌^◌, suc, ◌-◌, ◌≤◌}
 use mathlib.Core.Path.{◌≡◌, refl, sym, ap, ◌∙◌}
 use mathlib.Core.Bool.{Bool, true, false}
@@ -8,7 +9,7 @@ use native.Mathlib.Omega.{arith}
 use borrow.Author.Tests.{ne_eqb}
 use lib.Dec.{eqb}
 use lib.ListN.{length, drop}
-use Rattle.words.specs.Words.{◌and◌, if◌then◌else◌}
+use Rattle.words.specs.Words.{◌and◌}
 use Rattle.sections.specs.Sections.{none, ◌belongs_to◌}
 use Rattle.sections.proofs.SetsOfSets.{in_both}
 use Rattle.words.proofs.Tests.{and_true}

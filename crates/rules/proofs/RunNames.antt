@@ -1,5 +1,6 @@
 -- (02, Req 01) What a run names: nothing where no event is refused, else what that refusal names, of the situation in which the event was tried. Assumes
 -- nothing.
+use Rattle.std.specs.Prelude.{if◌then◌else◌}
 use Prim.Native.Nat.{ℕ, zero, suc, ◌+◌, ◌<◌}
 use mathlib.Core.Path.{◌≡◌, refl}
 use mathlib.Core.Bool.{Bool, true, false, cond}
@@ -8,7 +9,6 @@ use lib.ListN.{length, take, get_or}
 use lib.Dec.{eqb}
 use borrow.Author.Tests.{eqb-false, eq-eqb, ne_eqb}
 use native.Mathlib.Omega.{arith}
-use Rattle.words.specs.Words.{if◌then◌else◌}
 use Rattle.keylaws.specs.Rules.{Rules, Word}
 use Rattle.keylaws.specs.Key.{reached, Accepted}
 use Rattle.keylaws.specs.Run.{stopped, run_from}

@@ -1,6 +1,6 @@
 -- The rules of a question, in the form that a key knows them: the real events and readings, on one plan.
-use Rattle.std.specs.Prelude.{ℕ, Bool, true, List, [], ◌∷◌, length, eqb}
-use Rattle.words.specs.Words.{◌and◌, if◌then◌else◌}
+use Rattle.std.specs.Prelude.{ℕ, Bool, true, List, [], ◌∷◌, length, eqb, if◌then◌else◌}
+use Rattle.words.specs.Words.{◌and◌}
 use Rattle.keylaws.specs.Rules.{Rules, Word}
 use Rattle.block.specs.declared.line.Plan.{Plan}
 use Rattle.block.specs.declared.event.Event.{Event}

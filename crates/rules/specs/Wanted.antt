@@ -1,7 +1,7 @@
 -- Nothing here has to be believed: what the readings of a question ask, put together before any situation is tried, from their bytes. That all
 -- readings hold exactly where it is met is proved.
-use Rattle.std.specs.Prelude.{ℕ, ◌≡◌, Bool, true, List, [], ◌∷◌, length, eqb}
-use Rattle.words.specs.Words.{◌and◌, if◌then◌else◌}
+use Rattle.std.specs.Prelude.{ℕ, ◌≡◌, Bool, true, List, [], ◌∷◌, length, eqb, if◌then◌else◌}
+use Rattle.words.specs.Words.{◌and◌}
 use Rattle.sections.specs.Sections.{none, ◌belongs_to◌}
 use Rattle.sections.specs.Sets.{both}
 use Rattle.rulebook.specs.Situation.{Kept}

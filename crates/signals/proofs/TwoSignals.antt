@@ -1,10 +1,11 @@
 -- What a signal shows is defined along the line; that it and the next one are enough to know it. Assumes nothing.
+use Rattle.std.specs.Prelude.{if◌then◌else◌}
 use Prim.Native.Nat.{ℕ, zero, suc, ◌-◌}
 use mathlib.Core.Path.{◌≡◌, refl, sym, ap, ap₂, ◌∙◌}
 use mathlib.Core.Bool.{Bool, true, false, not}
 use native.Mathlib.Omega.{arith}
 use borrow.Author.Tests.{eq-eqb, ne_eqb}
-use Rattle.words.specs.Words.{◌and◌, ◌or◌, if◌then◌else◌}
+use Rattle.words.specs.Words.{◌and◌, ◌or◌}
 use Rattle.sections.specs.Sections.{◌belongs_to◌}
 use Rattle.block.specs.Line.{is_section, is_signal, terminus, after, across_frontier, direction_of, section_of}
 use Rattle.rulebook.specs.Situation.{Kept, station}

@@ -1,6 +1,6 @@
 -- A reader need not believe this file: readings of a station, by sets of its codes. That they are the readings is proved in proofs/CodesRead.
-use Rattle.std.specs.Prelude.{ℕ, Bool, eqb}
-use Rattle.words.specs.Words.{◌or◌, if◌then◌else◌}
+use Rattle.std.specs.Prelude.{ℕ, Bool, eqb, if◌then◌else◌}
+use Rattle.words.specs.Words.{◌or◌}
 use Rattle.sections.specs.Sections.{◌belongs_to◌}
 use Rattle.situation.specs.CodeSets.{own_codes, other_codes, where_orientation, where_annulment, where_exit}
 use Rattle.situation.specs.declared.Situation.{Situation as Packed}

@@ -1,11 +1,11 @@
 -- A flag set or cleared touches that flag and no other; so what is said of a situation in words is said of each flag by itself.
+use Rattle.std.specs.Prelude.{if◌then◌else◌}
 use Prim.Native.Nat.{ℕ, ◌<◌}
 use mathlib.Core.Path.{◌≡◌, refl, ap, fun_ext, ◌∙◌}
 use mathlib.Core.Bool.{Bool, true, false}
 use native.Mathlib.Decide.{ℕ_discrete}
 use borrow.Author.Tests.{eq-eqb, ne_eqb}
 use lib.Dec.{eqb}
-use Rattle.words.specs.Words.{if◌then◌else◌}
 use Rattle.sections.specs.Sections.{◌belongs_to◌}
 use Rattle.sections.proofs.SetLaws.{has_with_same, has_with_other, has_without_same, has_without_other}
 use Rattle.rulebook.specs.Situation.{Situation}

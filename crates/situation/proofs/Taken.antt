@@ -1,8 +1,9 @@
 -- What becomes of an annulment when a section is occupied, and when an occupation is a stray one. Assumes nothing.
+use Rattle.std.specs.Prelude.{if◌then◌else◌}
 use Prim.Native.Nat.{ℕ}
 use mathlib.Core.Path.{◌≡◌, refl, sym, ap, ap₂, ◌∙◌}
 use mathlib.Core.Bool.{Bool, true, false, not, true≢false, false≢true}
-use Rattle.words.specs.Words.{◌and◌, ◌or◌, if◌then◌else◌}
+use Rattle.words.specs.Words.{◌and◌, ◌or◌}
 use Rattle.sections.specs.Sections.{◌with_section◌}
 use Rattle.block.specs.Line.{is_first, opposite, away, toward}
 use Rattle.rulebook.specs.Place.{Place, follows, expected}

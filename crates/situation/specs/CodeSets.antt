@@ -1,7 +1,6 @@
 -- A reader need not believe this file: of a station's first six flags, two each of orientation, annulment and exit route, the sets of values
 -- in which a code is the one asked. That they say what the codes say is proved in proofs/CodeSets.
-use Rattle.std.specs.Prelude.{ℕ, ◌/◌, ◌%◌, ◌^◌, eqb}
-use Rattle.words.specs.Words.{if◌then◌else◌}
+use Rattle.std.specs.Prelude.{ℕ, ◌/◌, ◌%◌, ◌^◌, eqb, if◌then◌else◌}
 use Rattle.sections.specs.Sections.{none}
 use Rattle.situation.specs.declared.Situation.{Situation as Packed}
 

@@ -1,6 +1,6 @@
 -- A reader need not believe this file: which situation the words of the code are. Nothing about the block is defined here.
-use Rattle.std.specs.Prelude.{ℕ, ◌+◌, ◌-◌, ◌*◌, Bool, ltb}
-use Rattle.words.specs.Words.{if◌then◌else◌, flag}
+use Rattle.std.specs.Prelude.{ℕ, ◌+◌, ◌-◌, ◌*◌, Bool, ltb, if◌then◌else◌}
+use Rattle.words.specs.Words.{flag}
 use Rattle.sections.specs.Sections.{◌belongs_to◌, ◌with_section◌, ◌without_section◌}
 use Rattle.rulebook.specs.Situation.{Station, Situation}
 use Rattle.situation.specs.declared.Situation.{Situation as Packed}

@@ -1,4 +1,6 @@
 // A situation in words, as one of its stations sees it: own, and the other. It is kept as A sees it.
+#![tactic(auto)]
+
 pub mod asked;
 pub mod changed;
 pub mod codes;

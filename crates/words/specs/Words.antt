@@ -1,10 +1,9 @@
 -- Words that every rule uses. `and` and `or` join tests from left to right.
-use Rattle.std.specs.Prelude.{ℕ, Bool, true, false, not}
+use Rattle.std.specs.Prelude.{ℕ, Bool, true, false, not, if◌then◌else◌}
 
 infixl 40 ◌or◌
 infixl 50 ◌and◌
 infix 35 ◌implies◌
-infixr 20 if◌then◌else◌
 abbrev pub ◌or◌ : Bool → Bool → Bool
 true or b = true
 false or b = b
@@ -15,10 +14,6 @@ false and b = false
 
 abbrev pub ◌implies◌ : Bool → Bool → Bool
 a implies b = not a or b
-
-abbrev pub if◌then◌else◌ : {X : Type 0} → Bool → X → X → X
-if true then a else b = a
-if false then a else b = b
 
 -- 1 where it holds, else 0
 abbrev pub flag : Bool → ℕ

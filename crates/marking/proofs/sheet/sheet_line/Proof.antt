@@ -1,4 +1,5 @@
 -- `sheet_line`: blank, then the unit, then the number, as the definition orders them. The two units differ only in their number.
+use Rattle.std.specs.Prelude.{if◌then◌else◌}
 use mathlib.Core.Path.{◌≡◌, refl, sym, ap, ◌∙◌}
 use mathlib.Core.List.{[], ◌∷◌}
 use Prim.Native.Nat.{ℕ}
@@ -9,7 +10,6 @@ use types.Run.{OneOf}
 use denote.Enum.Declared.{tag_of}
 use borrow.Author.Rules.{rules}
 use borrow.Author.Tests.{eq-eqb, ne_eqb}
-use Rattle.words.specs.Words.{if◌then◌else◌}
 use Rattle.numeric.specs.Number.{number_verdict, line_at}
 use Rattle.marking.specs.Sheet.{unit_of, given_of, unit_asked, verdict_of, sheet_line}
 use Rattle.marking.specs.declared.Answer.{Answer}

@@ -1,4 +1,5 @@
 -- `number_line` judges the value that the pattern stands for: the cuts of its distance give the verdict and the error of the definition.
+use Rattle.std.specs.Prelude.{if◌then◌else◌}
 use mathlib.Core.Path.{◌≡◌, sym, ap, ◌∙◌, subst}
 use Prim.Native.Nat.{ℕ, suc, ◌*◌, ◌/◌, ◌^◌, ◌≤◌, min}
 use native.Mathlib.Omega.{arith}
@@ -10,7 +11,6 @@ use lib.Ieee.{binary32, fits, to_bits}
 use lib.Ieee.Exact.{HasValue}
 use mir.Syntax.{w32}
 use mir.Val.{to_z, of_z}
-use Rattle.words.specs.Words.{if◌then◌else◌}
 use Rattle.numeric.specs.Exact.{is_number, exact_value, distance, right, below, signed, signed_error}
 use Rattle.numeric.specs.Inner.{value_of}
 use Rattle.numeric.proofs.Cutting.{right_cut, error_cut}

@@ -1,11 +1,11 @@
 -- `take_apart` gives the pattern's sign, digits and power of two, by whether its exponent field is zero.
+use Rattle.std.specs.Prelude.{if◌then◌else◌}
 use mathlib.Core.Path.{refl, ap, sym}
 use Prim.Native.Nat.{◌+◌, ◌%◌}
 use native.Mathlib.Omega.{arith}
 use mathlib.Core.Bool.{Bool}
 use borrow.Author.Tests.{lt-ltb, le-ltb}
 use borrow.Author.Rules.{rules}
-use Rattle.words.specs.Words.{if◌then◌else◌}
 use Rattle.numeric.proofs.judged.take_apart.Statement.{statement}
 use Rattle.numeric.proofs.judged.take_apart.Tie as tie
 

@@ -1,4 +1,5 @@
 -- The loop's invariant: the run from the i-th place on, counted from 0, gives and names what the whole run does. The measure is what is left of the places.
+use Rattle.std.specs.Prelude.{if◌then◌else◌}
 use Prim.Native.Nat.{ℕ, ◌+◌, ◌-◌, ◌≤◌}
 use mathlib.Core.Path.{◌≡◌, refl, sym, ap, ◌∙◌}
 use native.Mathlib.Omega.{arith}
@@ -6,7 +7,6 @@ use lib.ListN.{length, drop, get_or}
 use borrow.Author.Rules.{rules}
 use borrow.Author.Tests.{eq-eqb, ne_eqb}
 use mathlib.Core.Bool.{Bool, cond}
-use Rattle.words.specs.Words.{if◌then◌else◌}
 use Rattle.keylaws.specs.Run.{Outcome, run_from, run, stopped}
 use Rattle.rulebook.specs.Situation.{Kept}
 use Rattle.rulebook.specs.Names.{name}

@@ -1,8 +1,8 @@
 -- Assumes nothing.
+use Rattle.std.specs.Prelude.{if◌then◌else◌}
 use Prim.Native.Nat.{ℕ}
 use mathlib.Core.Path.{◌≡◌, subst, sym, ap, ap₂, ◌∙◌}
 use mathlib.Core.Bool.{Bool, not}
-use Rattle.words.specs.Words.{if◌then◌else◌}
 use Rattle.sections.specs.Sections.{none, only}
 use Rattle.sections.specs.Sets.{either, ◌minus◌}
 use Rattle.block.specs.Line.{first_section, terminus}

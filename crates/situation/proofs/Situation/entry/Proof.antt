@@ -1,9 +1,0 @@
-use mathlib.Core.Path.{refl, ◌∙◌}
-use Rattle.situation.specs.Packed.{unpacked}
-use Rattle.rulebook.proofs.Settled.{stays}
-use borrow.Author.Rules.{rules}
-use Rattle.situation.proofs.Situation.entry.Statement.{statement}
-use Rattle.situation.proofs.Situation.entry.Tie as tie
-
-pub entry_spec : {M : Type 1} → statement M
-entry_spec = tie.close (tie.spec (λ c κs. search rules) (λ c. c.with-entry.ensures ∙ stays (unpacked c.before.args.self) refl refl))

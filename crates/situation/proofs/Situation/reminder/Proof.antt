@@ -1,9 +1,0 @@
-use mathlib.Core.Path.{refl, ◌∙◌}
-use Rattle.situation.specs.Packed.{unpacked}
-use Rattle.rulebook.proofs.Settled.{stays}
-use borrow.Author.Rules.{rules}
-use Rattle.situation.proofs.Situation.reminder.Statement.{statement}
-use Rattle.situation.proofs.Situation.reminder.Tie as tie
-
-pub reminder-spec : {M : Type 1} → statement M
-reminder-spec = tie.close (tie.spec (λ c κs. search rules) (λ c. c.with-reminder.ensures ∙ stays (unpacked c.before.args.self) refl refl))

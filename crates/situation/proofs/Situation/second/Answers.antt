@@ -1,0 +1,19 @@
+use mathlib.Core.Path.{◌≡◌, refl, sym, ap, ◌∙◌}
+use mathlib.Core.Bool.{false, not}
+use borrow.Author.Tests.{eq-eqb}
+use Rattle.rulebook.specs.Situation.{count_runs}
+use Rattle.rulebook.specs.Place.{place}
+use Rattle.situation.specs.Packed.{unpacked}
+use Rattle.rulebook.proofs.Settled.{stays}
+use Rattle.rulebook.proofs.SecondPasses.{lowered, quiet}
+use Rattle.situation.proofs.Watched.{lowered_as}
+use borrow.Author.Rules.{rules}
+use Rattle.situation.proofs.Situation.second.Goals as goal
+
+
+pub returns : goal.returns
+returns c =
+    let a = c.args in
+    let x = unpacked a.self in
+    let at = place a.at x in
+    c.with_watch.ensures ∙ lowered_as at a.self c.marked.ensures c.count-count.ensures ∙ stays x {y = lowered at x} refl refl

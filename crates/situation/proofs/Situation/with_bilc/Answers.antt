@@ -1,0 +1,7 @@
+use native.Mathlib.Omega.{arith}
+use Rattle.situation.proofs.FlagLaws.{one}
+use borrow.Author.Rules.{rules}
+use Rattle.situation.proofs.Situation.with_bilc.Goals as goal
+
+pub returns : goal.returns
+returns c = one c.args.self 7 c.args.v (omega arith) c.flagged.ensures

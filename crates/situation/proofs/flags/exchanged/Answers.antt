@@ -1,0 +1,6 @@
+use Rattle.situation.proofs.Exchanged.{swapped}
+use borrow.Author.Rules.{rules}
+use Rattle.situation.proofs.flags.exchanged.Goals as goal
+
+pub returns : goal.returns
+returns c = swapped c.args.flags
