@@ -1,5 +1,7 @@
 // What refuses each event, own being the station that the event names: "Checks run in the order written; the first that fails
 // gives the refusal." Of AFBLI, AFBLE, BILC and BSLB what refuses it in 2024, and apart from it what 2012 adds.
+#![tactic(auto)]
+
 ghost use Rattle.std.specs.Prelude.{◌≡◌, not, if◌then◌else◌};
 ghost use Rattle.words.specs.Words.{◌and◌};
 ghost use Rattle.refusals.specs.InOrder.{check};

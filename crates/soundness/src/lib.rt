@@ -1,4 +1,6 @@
 // A plan and a situation in it, judged: 0 where it is one, else the refusal. A test for each clause of the document.
+#![tactic(auto)]
+
 ghost use Rattle.std.specs.Prelude.{◌≡◌};
 ghost use Rattle.words.specs.Words.{◌and◌};
 ghost use Rattle.rulebook.specs.Sound.{station_sound, link_up_agrees, link_down_apart, may_ask, pending_sound, sets_sound, watch_sound, such_a_pair, sound_in_2024, exclusions_kept, sound};
