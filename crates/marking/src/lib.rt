@@ -1,4 +1,6 @@
 // Numbers typed by candidates, marked exactly.
+#![tactic(auto)]
+
 mod codes;
 mod sheet;
 mod typed;

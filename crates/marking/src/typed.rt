@@ -7,7 +7,7 @@ ghost use Rattle.marking.specs.Typed.{answer_of, pattern_of, word, twos, line_by
 use super::Answer;
 use super::codes::{ACCEPTED, BLANK, LINE, METRES, OUT_OF_RANGE, ROOM_TOO_SHORT, SECONDS};
 use super::sheet::accepted_line;
-use bytes::copy;
+use copying::copy;
 use numeric::Line;
 use numeric::codes::{INFINITE, MINUS_ZERO};
 use numeric::exact::in_range;

@@ -8,7 +8,7 @@ use native.Mathlib.Omega.{arith}
 use mathlib.Core.Bool.{Bool, true, false, not, cond}
 use lib.Dec.{T, leb, ltb, eqb, eqb→eq, nltb→le, not_T}
 use borrow.Author.Tests.{lt-ltb, le-ltb, eq-eqb, ne_eqb}
-use lib.Ieee.{Float, nan, inf, fin, binary32, odd, of_fields, of_bits, to_bits, fits, is_nan, nan_bits, ne, div}
+use lib.Ieee.{Float, nan, inf, fin, binary32, odd, of_fields, of_bits, to_bits, fits, is_nan as nan_float, nan_bits as nan_pattern, ne, div}
 use lib.Ieee.Bits.{cond_no, of_bits-to_bits, nan_bits_is, nan_bits_above}
 use lib.Ieee.Compare.{differs_from_itself, nan_differs}
 use lib.Ieee.Exact.{HasValue, odd_sign}
@@ -60,8 +60,8 @@ digits_lt b = go (ltb (b % 2147483648) 8388608)
     go false = omega arith
 
 -- ---- the tests of the code
-pub no_nan : (x : Float) → ne x x ≡ false → T (not (is_nan x))
-unfolding is_nan
+pub no_nan : (x : Float) → ne x x ≡ false → T (not (nan_float x))
+unfolding nan_float
 no_nan nan e = subst T (sym nan_differs ∙ e) tt
 no_nan (inf s) e = tt
 no_nan (fin s m n) e = tt
@@ -77,11 +77,11 @@ is_inf x h e =
     let t : b % 8388608 ≡ 0 = omega arith in
     sym (of_bits-to_bits binary32 x h) ∙ of_bits_is b ∙ ap (λ (z : ℕ). of_fields binary32 (leb 2147483648 b) z (b % 8388608)) u ∙ ap (λ (z : ℕ). of_fields binary32 (leb 2147483648 b) 255 z) t
 
-pub finite_field : (x : Float) → T (fits binary32 x) → T (not (is_nan x)) → (to_bits binary32 x % 2147483648 ≡ 2139095040 → ⊥) → to_bits binary32 x % 2147483648 / 8388608 < 255
+pub finite_field : (x : Float) → T (fits binary32 x) → T (not (nan_float x)) → (to_bits binary32 x % 2147483648 ≡ 2139095040 → ⊥) → to_bits binary32 x % 2147483648 / 8388608 < 255
 finite_field x h n i =
     let b = to_bits binary32 x in
     let le : b % 2147483648 ≤ 2139095040 =
-    nltb→le 2139095040 (b % 2147483648) (subst (λ (z : Bool). T (not z)) (ap is_nan (sym (of_bits-to_bits binary32 x h)) ∙ sym (nan_bits_is binary32 b) ∙ nan_bits_above binary32 b) n) in
+    nltb→le 2139095040 (b % 2147483648) (subst (λ (z : Bool). T (not z)) (ap nan_float (sym (of_bits-to_bits binary32 x h)) ∙ sym (nan_bits_is binary32 b) ∙ nan_bits_above binary32 b) n) in
     under (b % 2147483648) le i
   where
     under : (y : ℕ) → y ≤ 2139095040 → (y ≡ 2139095040 → ⊥) → y / 8388608 < 255
@@ -97,11 +97,11 @@ value_at x s d k h g es ed ek =
     (subst (λ (z : ℕ). HasValue x (negative_of (to_bits binary32 x)) (digits_of (to_bits binary32 x) * 2 ^ z) (2 ^ 149)) (sym ek) (value_of x h g)))
 
 -- ---- a pattern that is typed
-pub no_nan_bits : (b : ℕ) → b % 2147483648 ≤ 2139095040 → T (not (nan_bits binary32 b))
+pub no_nan_bits : (b : ℕ) → b % 2147483648 ≤ 2139095040 → T (not (nan_pattern binary32 b))
 no_nan_bits b h = subst (λ (z : Bool). T (not z)) (sym (nan_bits_above binary32 b ∙ le-ltb 2139095040 (b % 2147483648) h)) tt
 
-one_nan : (x : Float) → is_nan x ≡ true → x ≡ nan
-unfolding is_nan
+one_nan : (x : Float) → nan_float x ≡ true → x ≡ nan
+unfolding nan_float
 one_nan nan e = refl
 one_nan (inf s) e = absurd (subst T (sym e) tt)
 one_nan (fin s m k) e = absurd (subst T (sym e) tt)

@@ -5,7 +5,7 @@ use native.Mathlib.Nat.{mul-one, mul_assoc, mul_comm, mul_left_comm, mul-pos, ne
 use mathlib.Core.Bool.{true, false, not, cond, true≢false}
 use lib.IntN.{pos}
 use lib.Dec.{T, eqb, eqb→eq, not_T, le→leb}
-use lib.Ieee.{Float, nan, inf, fin, Format, prec, up, down, round, div, of_int, in_float}
+use lib.Ieee.{Float, nan, inf, fin, Format, prec, up, down, round, div, of_int, in_float as float_holds}
 use lib.Ieee.Bits.{cond_no}
 use lib.Ieee.Fits.{down_pos}
 use lib.Ieee.Exact.{HasValue}
@@ -38,6 +38,6 @@ unfolding of_int
 quotient f p q P Q H = div_is f (round f false p 1) (round f false q 1) p q (round_whole f false p P) (round_whole f false q H) Q
 
 -- the cast asks nothing more
-pub in_float : (f : Format) (p : ℕ) → p ≤ 2 ^ prec f → T (in_float f (pos p))
-unfolding in_float
+pub in_float : (f : Format) (p : ℕ) → p ≤ 2 ^ prec f → T (float_holds f (pos p))
+unfolding float_holds
 in_float f p h = le→leb p (2 ^ prec f) h

@@ -1,4 +1,6 @@
 // A number typed in the unit asked: its exact answer, its model value, and how it is judged.
+#![tactic(auto)]
+
 pub mod codes;
 pub mod exact;
 pub mod judged;
