@@ -1,4 +1,6 @@
 // Orders and happenings: an event on a situation as it is kept.
+#![tactic(auto)]
+
 ghost use Rattle.std.specs.Prelude.{◌≡◌};
 ghost use Rattle.rulebook.specs.Table.{station, section, kind_of, Occupied};
 ghost use Rattle.rulebook.specs.Apply.{fits, known, argument_right, spot_named, led_at, own_refusal, reached, refused, stepped, applied};

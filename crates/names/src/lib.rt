@@ -1,4 +1,6 @@
 // What a refusal names: a section by its number, a station by 0 A, 1 B.
+#![tactic(auto)]
+
 ghost use Rattle.std.specs.Prelude.{◌≡◌};
 ghost use Rattle.rulebook.specs.Names.{lowest_occupied, station_argument, route_holder};
 ghost use Rattle.situation.specs.Packed.{unpacked};
