@@ -1,4 +1,6 @@
 // The text of a key: a line for each sequence, the total, a refusal.
+#![tactic(auto)]
+
 mod line;
 mod number;
 

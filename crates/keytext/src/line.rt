@@ -60,7 +60,7 @@ pub(crate) fn put_labelled(label: &[u8], n: u64, room: &mut [u8]) -> usize
     ensures end { result ≡ length (labelled label.now n) }
     ensures room { room.new ≡ over 0 (labelled label.now n) room.old }
 {
-    let at = bytes::copy(label, room);
+    let at = copying::copy(label, room);
     room[at] = b' ';
     let last = put_number(n, at + 1, room);
     room[last] = b'\n';

@@ -17,7 +17,7 @@ fn write_slot(slot: [u8; 6], part: &mut [u8])
     requires { 6 ≤ length part.old }
     ensures { part.new ≡ slot ++ drop 6 part.old }
 {
-    bytes::copy(&slot, part);
+    copying::copy(&slot, part);
 }
 
 // One slot more, written into the rest of the room, or the news that it has no place.
