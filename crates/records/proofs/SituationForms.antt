@@ -5,7 +5,7 @@ use mathlib.Core.Path.{◌≡◌, refl, sym, ap, ◌∙◌}
 use mathlib.Core.Bool.{Bool, true, false}
 use native.Mathlib.Omega.{arith}
 use lib.ListN.{length, take}
-use Rattle.words.specs.Words.{◌and◌, ◌or◌}
+use Rattle.words.specs.Words.{◌or◌}
 use Rattle.forms.specs.Compose.{section}
 use Rattle.forms.proofs.Reading.{both}
 use Rattle.records.specs.Situation.{Codes, without_watch, with_watch, situation}

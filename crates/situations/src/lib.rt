@@ -1,4 +1,6 @@
 // The situation's record, read into a situation and written from one.
+#![tactic(auto)]
+
 ghost use Rattle.std.specs.Prelude.{◌≡◌, ◌≤◌, leb, length, take, get_or};
 ghost use Rattle.words.specs.Words.{◌and◌};
 ghost use Rattle.situation.specs.Packed.{unpacked};
@@ -239,5 +241,5 @@ pub fn put_situation(x: Situation, room: &mut [u8]) -> usize
 {
     let record = record_of(x);
     let size = record_size(x);
-    bytes::copy(&record[..size], room)
+    copying::copy(&record[..size], room)
 }

@@ -1,0 +1,19 @@
+use mathlib.Core.Path.{sym, ◌∙◌}
+use native.Mathlib.Omega.{arith}
+use Rattle.records.specs.Sizes.{counted}
+use Rattle.records.proofs.Fronts.{stands_long, list_stands}
+use Rattle.records.proofs.form.counted.Goals as goal
+
+pub returns-then-not-stands : goal.returns-then-not-stands
+unfolding counted
+returns-then-not-stands c = (rw (sym c.stands.ensures ∙ c.if-not-stands.true), omega arith)
+
+pub bounds-s-2 : goal.bounds-s-2
+bounds-s-2 c = omega (arith, stands_long _ 1 _ (sym c.stands.ensures ∙ c.if-not-stands.false))
+
+pub returns-then-least-count : goal.returns-then-least-count
+returns-then-least-count c = list_stands _ _ _ _ _ _ c.wide.ensures.0 (sym c.stands.ensures ∙ c.if-not-stands.false) c.if-least-count.true
+
+pub returns : goal.returns
+unfolding counted
+returns c = (rw (sym c.stands.ensures ∙ c.if-not-stands.false, rw c.wide.ensures.0 at c.if-least-count.false), omega arith)
