@@ -11,7 +11,7 @@ use Rattle.rulebook.specs.Situation.{Track, Situation, Kept, out, inward, seen_f
 use Rattle.rulebook.specs.Place.{Place, place}
 use Rattle.rulebook.specs.Events.{turns}
 use Rattle.rulebook.specs.Table.{Occupied, kind_of}
-use Rattle.rulebook.specs.Apply.{led_at, event, spot, reached, accepted, refused, applied}
+use Rattle.rulebook.specs.Apply.{led_at, event, spot, reached, applied}
 use Rattle.block.specs.declared.line.Plan.{Plan}
 use Rattle.block.specs.declared.line.Name.{Name}
 use Rattle.block.specs.declared.line.Name.TheVariants.{StationA, StationB}

@@ -15,7 +15,7 @@ use Rattle.rulebook.specs.Place.{place}
 use Rattle.rulebook.specs.Situation.{Situation, Kept, own_sobb, with_pending, held, held_towards, with_held_towards, seen_from, kept_from, ◌is_out, ◌is_in}
 use Rattle.rulebook.specs.Sound.{stations_sound, sound}
 use Rattle.rulebook.specs.Table.{Kind, Sobb, Cobb, Afbli, Afble, Dafbl, Bilc, Dilc, Bslg, BslgOff, Bslb, BslbOff, Reminder, ReminderOff, ExitNormal, ExitSpecial, ExitReleased, Entry, EntryReleased, Occupied, Freed, LinkLost, LinkRestored, table, section, signal, kind_of}
-use Rattle.rulebook.specs.Apply.{refuses, leads, refusal_at, led_at, argument_right, spot, own_refusal, reached, accepted, applied}
+use Rattle.rulebook.specs.Apply.{refuses, leads, refusal_at, led_at, argument_right, spot, own_refusal, reached, applied}
 use Rattle.block.specs.declared.line.Plan.{Plan}
 use Rattle.block.specs.declared.line.Name.{Name}
 use Rattle.block.specs.declared.line.Name.TheVariants.{StationA, StationB}

@@ -1,5 +1,5 @@
 -- (02, Req 05) What is sound in 2012, section by section; and that no events lead elsewhere: soundness is kept. Assumes nothing.
-use mathlib.Core.Bool.{Bool, true, false, false≢true}
+use mathlib.Core.Bool.{Bool, true, false≢true}
 use mathlib.Core.Path.{◌≡◌, refl, ap, ap₂, ◌∙◌}
 use borrow.Author.Tests.{le-leb}
 use lib.Dec.{T}

@@ -11,7 +11,7 @@ use Rattle.rulebook.specs.Pending.{changes, orientation_change}
 use Rattle.rulebook.specs.Place.{Place, place}
 use Rattle.rulebook.specs.Situation.{Situation, Kept, nobody, own_sobb, turned, turned_round, seen_from}
 use Rattle.rulebook.specs.Table.{Kind, Sobb, table, kind_of}
-use Rattle.rulebook.specs.Apply.{led_at, spot, reached, accepted}
+use Rattle.rulebook.specs.Apply.{led_at, spot, reached}
 use Rattle.block.specs.declared.line.Plan.{Plan}
 use Rattle.block.specs.declared.line.Name.{Name}
 use Rattle.block.specs.declared.line.Name.TheVariants.{StationA, StationB}

@@ -16,11 +16,10 @@ use Rattle.block.specs.Line.{is_plan, is_section, section_of}
 use Rattle.block.proofs.PlanLaws.{plan_short, Within, within}
 use Rattle.rulebook.specs.Situation.{Track, Watch, Situation, Kept, seen_from, with_this_watch, any_exit_route, count_runs, none_occupied, track_free, line_free, ◌has_exit_route}
 use Rattle.rulebook.specs.Sound.{sound}
-use Rattle.rulebook.specs.Judged.{judged}
 use Rattle.rulebook.specs.Place.{Place, place}
 use Rattle.rulebook.specs.Events.{brings_to_0}
 use Rattle.rulebook.specs.Table.{Freed, kind_of}
-use Rattle.rulebook.specs.Apply.{refusal_at, led_at, event, spot, own_refusal, reached, accepted, refused, applied, Outcome}
+use Rattle.rulebook.specs.Apply.{refusal_at, led_at, event, spot, own_refusal, reached, accepted, applied, Outcome}
 use Rattle.block.specs.declared.line.Plan.{Plan}
 use Rattle.block.specs.declared.line.Name.{Name}
 use Rattle.block.specs.declared.line.Name.TheVariants.{StationA, StationB}

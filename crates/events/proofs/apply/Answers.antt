@@ -1,5 +1,4 @@
-use borrow.Author.Tests.{eq-eqb, ne_eqb}
-use borrow.Author.Rules.{rules}
+use borrow.Author.Tests.{ne_eqb}
 use Rattle.events.proofs.apply.Goals as goal
 
 pub returns-then-refusal-ne0 : goal.returns-then-refusal-ne0

@@ -1,6 +1,6 @@
 use mathlib.Core.Path.{ap, ◌∙◌}
-use Rattle.rulebook.specs.Table.{section, Sobb, Cobb, Afbli, Afble, Dafbl, Bilc, Dilc, Bslg, BslgOff, Bslb, BslbOff, Reminder, ReminderOff, ExitNormal, ExitSpecial, ExitReleased, Entry, EntryReleased, Occupied, Freed, LinkLost, LinkRestored, Second}
-use Rattle.rulebook.specs.Apply.{leads, led_at, spot_named}
+use Rattle.rulebook.specs.Table.{section, Sobb, Cobb, Afbli, Afble, Dafbl, Bilc, Dilc, Bslg, BslgOff, Bslb, BslbOff, Reminder, ReminderOff, ExitNormal, ExitSpecial, ExitReleased, Entry, EntryReleased, Freed, LinkLost, LinkRestored, Second}
+use Rattle.rulebook.specs.Apply.{leads, spot_named}
 use Rattle.block.specs.declared.event.Spot.{Spot}
 use Rattle.situation.specs.Packed.{unpacked}
 use Rattle.events.proofs.EitherView.{bslb_led, bslb_off_led, freed_led}

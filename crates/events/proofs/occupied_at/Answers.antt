@@ -1,10 +1,8 @@
 use mathlib.Core.Path.{ap, ◌∙◌}
-use Rattle.rulebook.specs.Situation.{seen_from, kept_from}
+use Rattle.rulebook.specs.Situation.{kept_from}
 use Rattle.rulebook.specs.Table.{Occupied}
 use Rattle.rulebook.specs.Apply.{leads, led_at}
-use borrow.Author.Rules.{rules}
 use Rattle.events.proofs.occupied_at.Goals as goal
-
 
 pub returns : goal.returns
 unfolding led_at

@@ -3,16 +3,13 @@ use mathlib.Core.Path.{refl, sym, ap, ◌∙◌}
 use Rattle.rulebook.specs.Apply.{accepted, refused}
 use Rattle.situation.specs.Packed.{unpacked}
 use Rattle.events.proofs.Steps.{as_accepted, as_refused}
-use borrow.Author.Rules.{rules}
 use Rattle.events.proofs.step.Goals as goal
-
 
 pub returns-then-refusal-ne0 : goal.returns-then-refusal-ne0
 returns-then-refusal-ne0 c =
     let a = c.args in
     let e = c.refusal-refusal.ensures in
     record { result_value = c.refused.ensures.result_value ∙ ap (λ (r : ℕ). refused r (unpacked a.x)) e ∙ sym (as_refused a.plan (unpacked a.x) a.event (λ z. c.if-refusal-ne0.true (e ∙ z))); name_value = c.refused.ensures.name_value }
-
 
 pub returns : goal.returns
 returns c =

@@ -1,10 +1,8 @@
 -- The loop's invariant: of the sections that are left the lowest is the lowest of all.
 use Prim.Native.Nat.{◌-◌, ◌≤◌}
-use mathlib.Core.Path.{◌≡◌, sym, ◌∙◌}
-use native.Mathlib.Omega.{arith}
-use borrow.Author.Rules.{rules}
+use mathlib.Core.Path.{◌≡◌}
 use Rattle.rulebook.specs.Names.{lowest_from}
-use Rattle.names.proofs.InTurn.{lowest_up_to, found, later, none_left, from_first}
+use Rattle.names.proofs.InTurn.{lowest_up_to}
 use Rattle.names.proofs.lowest_occupied.Given as goal
 
 abbrev pub invariant-loop-k : goal.invariant-loop-k

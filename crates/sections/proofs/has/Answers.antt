@@ -6,7 +6,6 @@ use borrow.Author.Rules.{rules}
 use Rattle.sections.proofs.SetLaws.{nothing_over}
 use Rattle.sections.proofs.has.Goals as goal
 
-
 pub returns : goal.returns
 returns c =
     let fits : c.args.m < 2 ^ 64 = search rules in

@@ -7,7 +7,6 @@ use Rattle.sections.proofs.SetLaws.{nothing_over}
 use Rattle.words.proofs.Tests.{and_true}
 use Rattle.sections.proofs.sections_up_to.Goals as goal
 
-
 pub returns : goal.returns
 returns c =
     let m : ℕ = c.args.m in

@@ -1,19 +1,14 @@
 -- The three sets at once, then the two exit signals. Assumes nothing.
 use mathlib.Core.Path.{◌≡◌, sym, ◌∙◌}
 use mathlib.Core.Bool.{true}
-use borrow.Author.Tests.{not-true, not-false}
 use Rattle.soundness.proofs.SoundLaws.{named, some_unnamed, exits_decide}
-use Rattle.sections.specs.Sections.{◌belongs_to◌}
 use Rattle.situation.specs.Packed.{unpacked}
-use borrow.Author.Rules.{rules}
 use Rattle.soundness.proofs.sets_sound.Goals as goal
-
 
 pub returns-then-not-sections_up_to : goal.returns-then-not-sections_up_to
 returns-then-not-sections_up_to c =
     let a = c.args in
     some_unnamed a.plan (unpacked a.x) (rw (c.held-helda.ensures, c.held-heldb.ensures) at (sym c.sections_up_to.ensures ∙ c.if-not-sections_up_to.true))
-
 
 pub returns : goal.returns
 returns c =

@@ -1,6 +1,5 @@
 use native.Mathlib.Omega.{arith}
 use Rattle.situation.proofs.FlagLaws.{two}
-use borrow.Author.Rules.{rules}
 use Rattle.situation.proofs.Situation.becomes.Goals as goal
 
 pub returns : goal.returns

@@ -6,9 +6,7 @@ use Rattle.situation.specs.Packed.{unpacked}
 use Rattle.rulebook.proofs.Settled.{stays}
 use Rattle.situation.proofs.Taken.{occupied_too}
 use Rattle.situation.proofs.Watched.{starts_as, starts_unmarked, starts, starts_not}
-use borrow.Author.Rules.{rules}
 use Rattle.situation.proofs.Situation.freed.Goals as goal
-
 
 pub returns-then-not-marked : goal.returns-then-not-marked
 returns-then-not-marked c =
@@ -17,7 +15,6 @@ returns-then-not-marked c =
     let at = place a.at x in
     let unmarked : x.traffic.track.watch.mark ≡ false = sym c.marked.ensures ∙ c.if-not-marked.true in
     occupied_too x c.with_occupied-next.ensures c.without_section-left.ensures ∙ starts_not at x (starts_unmarked at x unmarked) ∙ stays x refl refl
-
 
 pub returns-then-starts : goal.returns-then-starts
 returns-then-starts c =
@@ -29,7 +26,6 @@ returns-then-starts c =
     ∙ ap (λ (y : Situation). with_track (with_this_watch (record { mark = true; count = 10 }) y.traffic.track) y) (occupied_too x c.with_occupied-next.ensures c.without_section-left.ensures)
     ∙ starts at x marked (starts_as at x marked c.without_section-left.ensures c.any_exit_route.ensures c.if-starts.true)
     ∙ stays x refl refl
-
 
 pub returns : goal.returns
 returns c =

@@ -10,9 +10,7 @@ use Rattle.block.proofs.SomeSection.{some_alike}
 use Rattle.block.specs.declared.line.Direction.TheVariants.{TowardsA, TowardsB}
 use Rattle.rulebook.specs.Situation.{held}
 use Rattle.situation.specs.Packed.{unpacked}
-use borrow.Author.Rules.{rules}
 use Rattle.situation.proofs.Situation.held_in_area.Goals as goal
-
 
 pub returns : goal.returns
 returns c =

@@ -1,15 +1,10 @@
-use mathlib.Core.Path.{◌≡◌, refl, sym, ap, ◌∙◌}
-use mathlib.Core.Bool.{false, not}
-use borrow.Author.Tests.{eq-eqb}
-use Rattle.rulebook.specs.Situation.{count_runs}
+use mathlib.Core.Path.{refl, ◌∙◌}
 use Rattle.rulebook.specs.Place.{place}
 use Rattle.situation.specs.Packed.{unpacked}
 use Rattle.rulebook.proofs.Settled.{stays}
-use Rattle.rulebook.proofs.SecondPasses.{lowered, quiet}
+use Rattle.rulebook.proofs.SecondPasses.{lowered}
 use Rattle.situation.proofs.Watched.{lowered_as}
-use borrow.Author.Rules.{rules}
 use Rattle.situation.proofs.Situation.second.Goals as goal
-
 
 pub returns : goal.returns
 returns c =

@@ -6,9 +6,7 @@ use Rattle.rulebook.specs.Situation.{any_exit_route}
 use Rattle.rulebook.specs.Place.{place}
 use Rattle.situation.specs.Packed.{unpacked}
 use Rattle.situation.proofs.Taken.{expected_follows}
-use borrow.Author.Rules.{rules}
 use Rattle.situation.proofs.Situation.stray.Goals as goal
-
 
 pub returns-then-any_exit_route : goal.returns-then-any_exit_route
 returns-then-any_exit_route c =
@@ -16,7 +14,6 @@ returns-then-any_exit_route c =
     let x = unpacked a.self in
     let routed : any_exit_route x ≡ true = sym c.any_exit_route.ensures ∙ c.if-any_exit_route.true in
     sym (ap (λ (v : Bool). not (place a.at x).expected and not v) routed ∙ and_false (not (place a.at x).expected))
-
 
 pub returns : goal.returns
 returns c =

@@ -2,12 +2,10 @@ use mathlib.Core.Path.{sym, ap, ap₂, ◌∙◌}
 use mathlib.Core.Bool.{Bool}
 use Rattle.words.specs.Words.{◌and◌, ◌or◌}
 use Rattle.rulebook.specs.Place.{place}
-use Rattle.rulebook.specs.Situation.{Situation, no_annulment, with_own_station, ◌annulled, ◌annulled_by◌, ◌under_AFBLE}
+use Rattle.rulebook.specs.Situation.{◌annulled, ◌under_AFBLE}
 use Rattle.situation.specs.Packed.{unpacked}
-use Rattle.situation.proofs.Taken.{or_true, not_annulled, kept, goes}
-use borrow.Author.Rules.{rules}
+use Rattle.situation.proofs.Taken.{or_true, not_annulled, kept}
 use Rattle.situation.proofs.Situation.taken.Goals as goal
-
 
 pub returns-then-not-annulled : goal.returns-then-not-annulled
 returns-then-not-annulled c =
@@ -15,7 +13,6 @@ returns-then-not-annulled c =
     let x = unpacked a.self in
     c.watched-next.ensures
     ∙ not_annulled (place a.at x) x (ap ◌annulled (sym c.own-own.ensures) ∙ sym c.annulled.ensures ∙ c.if-not-annulled.true)
-
 
 pub returns-then-under_afble-first : goal.returns-then-under_afble-first
 returns-then-under_afble-first c =

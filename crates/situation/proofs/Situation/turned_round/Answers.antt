@@ -1,7 +1,6 @@
 use mathlib.Core.Path.{ap}
 use Rattle.situation.specs.Packed.{Flags, with_flags}
 use Rattle.situation.proofs.Exchanged.{exchanged_flags}
-use borrow.Author.Rules.{rules}
 use Rattle.situation.proofs.Situation.turned_round.Goals as goal
 
 pub returns : goal.returns

@@ -1,7 +1,6 @@
 use native.Mathlib.Omega.{arith}
 use mathlib.Core.Bool.{false}
 use Rattle.situation.proofs.FlagLaws.{four}
-use borrow.Author.Rules.{rules}
 use Rattle.situation.proofs.Situation.uncounted.Goals as goal
 
 pub returns : goal.returns

@@ -1,6 +1,5 @@
 use native.Mathlib.Omega.{arith}
 use Rattle.situation.proofs.FlagLaws.{one}
-use borrow.Author.Rules.{rules}
 use Rattle.situation.proofs.Situation.with_link.Goals as goal
 
 pub returns : goal.returns

@@ -6,9 +6,7 @@ use Rattle.rulebook.specs.Situation.{Situation, with_track, with_this_watch}
 use Rattle.situation.specs.Packed.{unpacked}
 use Rattle.situation.proofs.CountBits.{bits_are}
 use Rattle.situation.proofs.FlagLaws.{five}
-use borrow.Author.Rules.{rules}
 use Rattle.situation.proofs.Situation.with_watch.Goals as goal
-
 
 pub returns : goal.returns
 returns c =

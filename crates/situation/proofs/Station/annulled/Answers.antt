@@ -1,9 +1,7 @@
 use mathlib.Core.Path.{ap₂}
 use Rattle.words.specs.Words.{◌or◌}
 use Rattle.situation.specs.Packed.{station}
-use borrow.Author.Rules.{rules}
 use Rattle.situation.proofs.Station.annulled.Goals as goal
-
 
 pub returns : goal.returns
 unfolding station

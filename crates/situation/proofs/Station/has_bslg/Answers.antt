@@ -1,7 +1,5 @@
 use Rattle.situation.specs.Packed.{station}
-use borrow.Author.Rules.{rules}
 use Rattle.situation.proofs.Station.has_bslg.Goals as goal
-
 
 pub returns : goal.returns
 unfolding station

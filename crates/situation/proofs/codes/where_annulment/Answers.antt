@@ -1,4 +1,3 @@
-use borrow.Author.Rules.{rules}
 use Rattle.situation.specs.CodeSets.{where_annulment}
 use Rattle.situation.proofs.codes.where_annulment.Goals as goal
 

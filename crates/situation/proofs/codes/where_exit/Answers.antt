@@ -1,4 +1,3 @@
-use borrow.Author.Rules.{rules}
 use Rattle.situation.specs.CodeSets.{where_exit}
 use Rattle.situation.proofs.codes.where_exit.Goals as goal
 

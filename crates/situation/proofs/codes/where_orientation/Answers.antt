@@ -1,4 +1,3 @@
-use borrow.Author.Rules.{rules}
 use Rattle.situation.specs.CodeSets.{where_orientation}
 use Rattle.situation.proofs.codes.where_orientation.Goals as goal
 

@@ -1,5 +1,4 @@
 use Rattle.situation.proofs.Exchanged.{swapped}
-use borrow.Author.Rules.{rules}
 use Rattle.situation.proofs.flags.exchanged.Goals as goal
 
 pub returns : goal.returns

@@ -1,7 +1,5 @@
 use Rattle.block.proofs.SomeInArea.{some_common}
-use borrow.Author.Rules.{rules}
 use Rattle.block.proofs.line.Plan.some_in_area.Goals as goal
-
 
 pub returns : goal.returns
 returns c =

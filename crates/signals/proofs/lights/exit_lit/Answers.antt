@@ -1,0 +1,39 @@
+-- Assumes nothing.
+use Rattle.std.specs.Prelude.{if◌then◌else◌}
+use Prim.Native.Nat.{ℕ}
+use mathlib.Core.Path.{◌≡◌, subst, sym, ap, ap₂, ◌∙◌}
+use mathlib.Core.Bool.{Bool}
+use Rattle.words.specs.Words.{◌and◌}
+use Rattle.sections.specs.Sections.{none, only}
+use Rattle.block.specs.Line.{first_section, entrance}
+use Rattle.rulebook.specs.Situation.{station, area_direction, ◌has_exit_route}
+use Rattle.block.specs.declared.line.Name.{Name}
+use Rattle.block.specs.declared.codes.Orientation.{Orientation}
+use Rattle.rulebook.specs.Situation.{Station}
+use Rattle.situation.specs.Packed.{unpacked}
+use Rattle.signals.specs.SignalSets.{Those, OffLine, exit_lit}
+use Rattle.signals.proofs.LitLaws.{exit_set, off_given, off_only, first_small, first_inside}
+use borrow.Author.Rules.{rules}
+use Rattle.signals.proofs.lights.exit_lit.Goals as goal
+
+
+pub returns : goal.returns
+returns c =
+    let a = c.args in
+    let x = unpacked a.x in
+    let at = c.entrance-s.ensures in
+    let t = ctation x (entrance a.d) in
+    let marks = c.station-t.ensures ∙ ap (ctation x) at in
+    let cet : c.given.result ≡ (if t has_exit_route and (area_direction t).out then only (first_section a.plan (entrance a.d)) else none) =
+    c.given.ensures
+    ∙ ap₂ (λ (v : Bool) (m : ℕ). if v then m else none)
+    (ap₂ (λ (v : Bool) (o : Orientation). v and o.out)
+    (c.routed-routed.ensures ∙ ap (λ (u : Station). u has_exit_route) marks)
+    (c.area_direction-way.ensures ∙ ap area_direction marks))
+    (c.first.ensures ∙ ap (λ (n : Name). only (first_section a.plan n)) at) in
+    let first = first_section a.plan (entrance a.d) in (
+      cubst (Those a.plan (exit_lit a.plan x a.d)) (cym cet) (exit_set a.plan x a.d c.requires),
+      cubst (OffLine a.plan) (cym cet)
+          (off_given a.plan (t has_exit_route and (area_direction t).out) (only first)
+          (off_only a.plan first (first_small a.plan (entrance a.d) c.requires) (first_inside a.plan (entrance a.d) c.requires))),
+    )
