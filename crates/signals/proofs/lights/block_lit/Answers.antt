@@ -11,9 +11,7 @@ use Rattle.block.specs.declared.line.Name.{Name}
 use Rattle.situation.specs.Packed.{unpacked}
 use Rattle.signals.specs.SignalSets.{Those, OffLine, leaves, arrives, block_lit}
 use Rattle.signals.proofs.LitLaws.{area_those, area_off, block_set, off_minus, off_either, off_given}
-use borrow.Author.Rules.{rules}
 use Rattle.signals.proofs.lights.block_lit.Goals as goal
-
 
 pub returns : goal.returns
 returns c =

@@ -13,18 +13,16 @@ use Rattle.rulebook.specs.Situation.{Station}
 use Rattle.situation.specs.Packed.{unpacked}
 use Rattle.signals.specs.SignalSets.{Those, OffLine, exit_lit}
 use Rattle.signals.proofs.LitLaws.{exit_set, off_given, off_only, first_small, first_inside}
-use borrow.Author.Rules.{rules}
 use Rattle.signals.proofs.lights.exit_lit.Goals as goal
-
 
 pub returns : goal.returns
 returns c =
     let a = c.args in
     let x = unpacked a.x in
     let at = c.entrance-s.ensures in
-    let t = ctation x (entrance a.d) in
-    let marks = c.station-t.ensures ∙ ap (ctation x) at in
-    let cet : c.given.result ≡ (if t has_exit_route and (area_direction t).out then only (first_section a.plan (entrance a.d)) else none) =
+    let t = station x (entrance a.d) in
+    let marks = c.station-t.ensures ∙ ap (station x) at in
+    let set : c.given.result ≡ (if t has_exit_route and (area_direction t).out then only (first_section a.plan (entrance a.d)) else none) =
     c.given.ensures
     ∙ ap₂ (λ (v : Bool) (m : ℕ). if v then m else none)
     (ap₂ (λ (v : Bool) (o : Orientation). v and o.out)
@@ -32,8 +30,8 @@ returns c =
     (c.area_direction-way.ensures ∙ ap area_direction marks))
     (c.first.ensures ∙ ap (λ (n : Name). only (first_section a.plan n)) at) in
     let first = first_section a.plan (entrance a.d) in (
-      cubst (Those a.plan (exit_lit a.plan x a.d)) (cym cet) (exit_set a.plan x a.d c.requires),
-      cubst (OffLine a.plan) (cym cet)
+      subst (Those a.plan (exit_lit a.plan x a.d)) (sym set) (exit_set a.plan x a.d c.requires),
+      subst (OffLine a.plan) (sym set)
           (off_given a.plan (t has_exit_route and (area_direction t).out) (only first)
           (off_only a.plan first (first_small a.plan (entrance a.d) c.requires) (first_inside a.plan (entrance a.d) c.requires))),
     )

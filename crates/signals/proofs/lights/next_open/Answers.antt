@@ -13,9 +13,7 @@ use Rattle.situation.specs.Packed.{unpacked}
 use Rattle.signals.specs.SignalSets.{next_open}
 use Rattle.signals.specs.SignalSets.{Those}
 use Rattle.signals.proofs.LitLaws.{last, ahead, entered, next_set}
-use borrow.Author.Rules.{rules}
 use Rattle.signals.proofs.lights.next_open.Goals as goal
-
 
 pub returns : goal.returns
 returns c =
@@ -25,8 +23,8 @@ returns c =
     let edge = c.edge in
     let to = c.terminus-t.ensures in
     let end : c.first-last.result ≡ only (first_section a.plan (terminus a.d)) = c.first-last.ensures ∙ ap (λ (t : Name). only (first_section a.plan t)) to in
-    let enters : c.has_entry.result ≡ (ctation x (terminus a.d)).entry = c.has_entry.ensures ∙ ap (λ (t : Station). t.entry) (c.station-station.ensures ∙ ap (ctation x) to) in
-    let cet : c.either.result ≡ either (ahead a.plan x a.d a.m next.result edge.result minus only (last a.plan x a.d a.m next.result edge.result)) (entered a.plan x a.d a.m next.result edge.result) =
+    let enters : c.has_entry.result ≡ (station x (terminus a.d)).entry = c.has_entry.ensures ∙ ap (λ (t : Station). t.entry) (c.station-station.ensures ∙ ap (station x) to) in
+    let set : c.either.result ≡ either (ahead a.plan x a.d a.m next.result edge.result minus only (last a.plan x a.d a.m next.result edge.result)) (entered a.plan x a.d a.m next.result edge.result) =
     c.either.ensures
     ∙ ap₂ either
     (c.minus.ensures
@@ -35,5 +33,5 @@ returns c =
     ∙ ap (λ (m : ℕ). next.result minus m) (c.given-unseen.ensures ∙ ap₂ (λ (v : Bool) (m : ℕ). if not v then m else none) c.linked.ensures c.single.ensures))
     end)
     (c.given-entered.ensures ∙ ap₂ (λ (v : Bool) (m : ℕ). if v then m else none) enters end) in
-    cubst (Those a.plan (next_open a.plan x a.d)) (cym cet)
+    subst (Those a.plan (next_open a.plan x a.d)) (sym set)
     (next_set a.plan x a.d a.m next.result edge.result c.requires.0 next.ensures edge.ensures c.requires.1)

@@ -1,6 +1,5 @@
 use mathlib.Core.Path.{◌≡◌, sym, ap, subst, ◌∙◌}
 use Prim.Native.Nat.{ℕ}
-use borrow.Author.Tests.{not-true}
 use Rattle.sections.specs.Sections.{only}
 use Rattle.sections.specs.Sets.{either, ◌minus◌}
 use Rattle.block.specs.Line.{first_section, entrance}
@@ -8,10 +7,8 @@ use Rattle.block.specs.declared.line.Name.{Name}
 use Rattle.situation.specs.Packed.{unpacked}
 use Rattle.aspects.specs.Aspects.{is_open}
 use Rattle.signals.specs.SignalSets.{Those, OffLine}
-use Rattle.signals.proofs.LitLaws.{open_set, nothing_open, off_minus, off_either}
-use borrow.Author.Rules.{rules}
+use Rattle.signals.proofs.LitLaws.{open_set, off_minus, off_either}
 use Rattle.signals.proofs.lights.open_signals.Goals as goal
-
 
 pub returns : goal.returns
 returns c =
@@ -21,11 +18,11 @@ returns c =
     let exit = c.exit_lit-exit in
     let first = only (first_section a.plan (entrance a.d)) in
     let lit = either (blocks.result minus first) exit.result in
-    let cet : c.minus-2.result ≡ lit minus x.traffic.track.occupied =
+    let set : c.minus-2.result ≡ lit minus x.traffic.track.occupied =
     c.minus-2.ensures
     ∙ ap (λ (m : ℕ). m minus x.traffic.track.occupied)
     (c.either-lit.ensures ∙ ap (λ (m : ℕ). either m exit.result) (c.minus.ensures ∙ ap (λ (m : ℕ). blocks.result minus m) (c.first.ensures ∙ ap (λ (n : Name). only (first_section a.plan n)) c.entrance-s.ensures))) in (
-      cubst (Those a.plan (is_open a.plan x a.d)) (cym cet) (open_set a.plan x a.d blocks.result exit.result c.requires blocks.ensures.0 exit.ensures.0),
-      cubst (OffLine a.plan) (cym cet)
+      subst (Those a.plan (is_open a.plan x a.d)) (sym set) (open_set a.plan x a.d blocks.result exit.result c.requires blocks.ensures.0 exit.ensures.0),
+      subst (OffLine a.plan) (sym set)
           (off_minus a.plan lit x.traffic.track.occupied (off_either a.plan (blocks.result minus first) exit.result (off_minus a.plan blocks.result first blocks.ensures.1) exit.ensures.1)),
     )
