@@ -1,4 +1,6 @@
 // A part of a key, written into lent room: exploring a situation tries its events, and trying them explores where each leads.
+#![tactic(auto)]
+
 ghost use Rattle.std.specs.Prelude.{◌≡◌, true, false, ◌+◌, ◌*◌, ◌≤◌, ◌<◌, length, get_or};
 ghost use Rattle.keylaws.specs.Continuation.{is_continuation};
 ghost use Rattle.keylaws.specs.Parts.{handed, part_after};
