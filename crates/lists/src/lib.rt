@@ -1,4 +1,6 @@
 // The lists of a question, judged: 3 and 4 event by event, then 21.
+#![tactic(auto)]
+
 ghost use Rattle.std.specs.Prelude.{◌≡◌, ◌+◌, ◌*◌, ◌/◌, ◌%◌, ◌<◌, true, false};
 ghost use Rattle.rulebook.specs.Apply.{event};
 ghost use Rattle.records.specs.InBytes.{events_in, readings_in};
