@@ -1,4 +1,6 @@
 // Keys of questions: fetched in parts, and candidates' slots run, where the question's bytes lie.
+#![tactic(auto)]
+
 ghost use Rattle.std.specs.Prelude.{◌≡◌, true, false, length};
 ghost use Rattle.keylaws.specs.Slots.{word_of, is_slot};
 ghost use Rattle.keylaws.specs.Continuation.{is_continuation};
