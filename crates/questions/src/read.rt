@@ -54,7 +54,7 @@ fn items(s: &[u8], width: usize) -> Items
     let count = s.len() / width;
     let size = width * count;
     let mut all = [0u8; 24];
-    bytes::copy(&s[..size], &mut all);
+    copying::copy(&s[..size], &mut all);
     Items {
         count: count as u8,
         bytes: all,

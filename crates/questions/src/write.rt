@@ -45,11 +45,11 @@ fn put_plan(p: Plan, room: &mut [u8]) -> usize
             p.frontier,
             RULES_2012,
         ];
-        return bytes::copy(&lc, room);
+        return copying::copy(&lc, room);
     }
     let letters = LB;
     let lb = [letters.first, letters.second, p.sections, p.frontier];
-    bytes::copy(&lb, room)
+    copying::copy(&lb, room)
 }
 
 // Two letters, the count, and items of so many bytes each.
@@ -59,10 +59,10 @@ fn put_items(letters: Letters, items: Items, width: usize, room: &mut [u8]) -> u
     ensures room_after { room.new ≡ laid (letters.first ∷ letters.second ∷ items.count ∷ take (width * items.count) items.bytes) room.old }
 {
     let head = [letters.first, letters.second, items.count];
-    let at = bytes::copy(&head, room);
+    let at = copying::copy(&head, room);
     let all = items.bytes;
     let n = width * wide(items.count);
-    at + bytes::copy(&all[..n], &mut room[at..])
+    at + copying::copy(&all[..n], &mut room[at..])
 }
 
 fn put_length(n: u8, room: &mut [u8]) -> usize
@@ -72,7 +72,7 @@ fn put_length(n: u8, room: &mut [u8]) -> usize
 {
     let letters = LN;
     let ln = [letters.first, letters.second, n];
-    bytes::copy(&ln, room)
+    copying::copy(&ln, room)
 }
 
 fn put_question(q: Question, room: &mut [u8]) -> usize
