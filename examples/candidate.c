@@ -1,5 +1,5 @@
 /* Runs a candidate's sequence on a paper, then marks a number typed on standard input.
- *   rt staticlib folvkin
+ *   tools/staticlib.sh
  *   gcc -Iinclude examples/candidate.c -Ltarget/staticlib -lfolvkin -o target/candidate
  *   target/candidate papers/marked-run.bin 1 2 4 3 */
 #include <stdio.h>

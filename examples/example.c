@@ -1,5 +1,5 @@
 /* Prints the key of a paper: of the file named, or of the marked run of document 01.
- *   rt staticlib folvkin
+ *   tools/staticlib.sh
  *   gcc -Iinclude examples/example.c -Ltarget/staticlib -lfolvkin -o target/example */
 #include <stdio.h>
 #include "folvkin.h"

@@ -1,6 +1,6 @@
 /* folvkin.h: the interface of Folvkin for other languages.
  *
- * Link with libfolvkin.a (`rt staticlib folvkin` writes it to
+ * Link with libfolvkin.a (`tools/staticlib.sh` writes it to
  * target/staticlib; it is x86-64 code for Linux). Plans, situations, events,
  * questions, slots and sheet lines cross it as the bytes of document 01,
  * "Scope and exact rules: integrated line block papers", with requests 01 to

@@ -28,7 +28,7 @@ fn main() {
     println!("cargo::rerun-if-changed={}", library.display());
     if !library.is_file() {
         fail(&format!(
-            "{} is not there: run `rt staticlib folvkin` at the repository's root first, \
+            "{} is not there: run `tools/staticlib.sh` at the repository's root first, \
              or build without the library by `--no-default-features`.",
             library.display()
         ));

@@ -4,7 +4,7 @@
 #
 #   tools/bench-counted.sh
 #
-# Run it at the repository's root after `rt staticlib folvkin`. It needs
+# Run it at the repository's root after `tools/staticlib.sh`. It needs
 # valgrind and cargo. The counts are the same each time.
 set -eu
 

@@ -4,7 +4,7 @@
 #
 #   tools/bench-emulated.sh [stub] [rounds]
 #
-# Run it at the repository's root after `rt staticlib folvkin`. It prints a
+# Run it at the repository's root after `tools/staticlib.sh`. It prints a
 # table of executed instructions, which come out the same each time, and, where
 # rounds are given, one of times under the emulator, the best of so many rounds.
 # With `stub` the plain implementation itself, compiled apart, takes the

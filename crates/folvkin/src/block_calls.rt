@@ -25,8 +25,7 @@ use soundness::judged;
 // No situation is ever longer.
 const LONGEST_SITUATION: usize = 96;
 
-#[unsafe(no_mangle)]
-pub extern "C" fn folvkin_plan(plan: &[u8]) -> u8
+pub fn folvkin_plan(plan: &[u8]) -> u8
     ensures { result ≡ plan_refusal plan.now }
 {
     let used = take_plan(plan);
@@ -39,8 +38,7 @@ pub extern "C" fn folvkin_plan(plan: &[u8]) -> u8
     plan_judged(plan_in(plan))
 }
 
-#[unsafe(no_mangle)]
-pub extern "C" fn folvkin_situation(plan: &[u8], situation: &[u8]) -> u8
+pub fn folvkin_situation(plan: &[u8], situation: &[u8]) -> u8
     ensures { result ≡ situation_refusal plan.now situation.now }
 {
     if !both_given(plan, situation) {
@@ -83,8 +81,7 @@ fn event_written(plan: Plan, x: Situation, event: Event, room: &mut [u8]) -> u64
 
 // Refusal + 2^8 name + 2^16 length; 13 names the lowest occupied section (0 where a count runs alone), 9 the station that holds the exit route
 // (0 A, 1 B). An accepted event writes the situation after it, as records; later bytes keep their values, and a refused one changes no byte.
-#[unsafe(no_mangle)]
-pub extern "C" fn folvkin_event(plan: &[u8], situation: &[u8], event: &[u8], room: &mut [u8]) -> u64
+pub fn folvkin_event(plan: &[u8], situation: &[u8], event: &[u8], room: &mut [u8]) -> u64
     ensures value { result ≡ event_packed (given plan.now situation.now) event.now room.old }
     ensures room_after { room.new ≡ event_room (given plan.now situation.now) event.now room.old }
 {
@@ -103,8 +100,7 @@ pub extern "C" fn folvkin_event(plan: &[u8], situation: &[u8], event: &[u8], roo
 }
 
 // Refusal + 2^8 value. A reading is kind and argument.
-#[unsafe(no_mangle)]
-pub extern "C" fn folvkin_reading(plan: &[u8], situation: &[u8], kind_and_argument: &[u8]) -> u32
+pub fn folvkin_reading(plan: &[u8], situation: &[u8], kind_and_argument: &[u8]) -> u32
     ensures { result ≡ packed (reading_told (given plan.now situation.now) kind_and_argument.now) }
 {
     if !both_given(plan, situation) {
@@ -154,8 +150,7 @@ fn show(plan: Plan, x: Situation, room: &mut [u8])
 }
 
 // Writes 2n bytes: the aspects of 1..n, then of 129..128+n. A room too short is refused with 24; later bytes keep their values.
-#[unsafe(no_mangle)]
-pub extern "C" fn folvkin_aspects(plan: &[u8], situation: &[u8], room: &mut [u8]) -> u8
+pub fn folvkin_aspects(plan: &[u8], situation: &[u8], room: &mut [u8]) -> u8
     ensures value { result ≡ aspects_told (given plan.now situation.now) room.old }
     ensures room_after { room.new ≡ aspects_room (given plan.now situation.now) room.old }
 {

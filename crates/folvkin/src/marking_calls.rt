@@ -3,8 +3,7 @@ ghost use Rattle.std.specs.Prelude.{◌≡◌};
 ghost use Rattle.marking.specs.Typed.{typed_refusal, room_after};
 
 // Writes the 13 bytes of the sheet line. A room under 13 bytes is refused with 24, after 23; later bytes keep their values.
-#[unsafe(no_mangle)]
-pub extern "C" fn folvkin_mark(
+pub fn folvkin_mark(
     kind: u8,
     amount: u32,
     speed: u32,

@@ -6,8 +6,7 @@ use keys::{key, run};
 use paper::found::find;
 use words::flag;
 
-#[unsafe(no_mangle)]
-pub extern "C" fn folvkin_question(bytes: &[u8]) -> u8
+pub fn folvkin_question(bytes: &[u8]) -> u8
     ensures { result ≡ question_refusal bytes.now }
 {
     let q = find(bytes);
@@ -15,8 +14,7 @@ pub extern "C" fn folvkin_question(bytes: &[u8]) -> u8
 }
 
 // Refusal + 2^8 more + 2^16 count. The slots are written into the room, later bytes keep their values.
-#[unsafe(no_mangle)]
-pub extern "C" fn folvkin_key(bytes: &[u8], after: &[u8], room: &mut [u8]) -> u64
+pub fn folvkin_key(bytes: &[u8], after: &[u8], room: &mut [u8]) -> u64
     ensures value { result ≡ key_packed bytes.now after.now room.old }
     ensures room_after { room.new ≡ key_room bytes.now after.now room.old }
 {
@@ -26,8 +24,7 @@ pub extern "C" fn folvkin_key(bytes: &[u8], after: &[u8], room: &mut [u8]) -> u6
 }
 
 // Refusal + 2^8 place + 2^16 event's refusal + 2^24 holds + 2^32 name.
-#[unsafe(no_mangle)]
-pub extern "C" fn folvkin_run(bytes: &[u8], slot: &[u8]) -> u64
+pub fn folvkin_run(bytes: &[u8], slot: &[u8]) -> u64
     ensures { result ≡ run_packed bytes.now slot.now }
 {
     let ran = run(bytes, slot);

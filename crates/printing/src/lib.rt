@@ -1,4 +1,6 @@
 // The key program's text, handed out in pieces.
+#![tactic(auto)]
+
 ghost use Rattle.std.specs.Prelude.{◌≡◌, ◌+◌, ◌-◌, ◌*◌, ◌/◌, ◌%◌, ◌^◌, ◌≤◌, false, ◌++◌, length, drop, nat_lt};
 ghost use Rattle.words.specs.Words.{◌or◌};
 ghost use Rattle.keytext.specs.Text.{lines, words, total as Text·total, longest_lines};
@@ -73,7 +75,7 @@ fn lines_piece(slots: &[u8], total: u64, room: &mut [u8]) -> Piece
     let all = slots.len();
     let last = all - SLOT;
     let mut after = [0u8; SLOT];
-    bytes::copy(&slots[last..all], &mut after);
+    copying::copy(&slots[last..all], &mut after);
     let total = std::num::wrapping_add_u64(total, (all / SLOT) as u64);
     let ended = false;
     let next = Progress {

@@ -2,7 +2,8 @@
 use crate::calls::answer;
 use crate::numbers::{long_at, short_at, word_at};
 use crate::room::{fill, is_left};
-use libc::STDIN_FILENO;
+use input::read_full;
+use std::io::Result;
 
 // The bytes of the head: kind, length of the room (4), the call's answer (8), lengths of the inputs (2 each) and of all that follows (2).
 pub(crate) const HEAD: usize = 21;
@@ -11,19 +12,19 @@ pub(crate) const HEAD: usize = 21;
 pub(crate) const BODY: usize = 65536;
 
 // Reads the rest of a case and runs it in a room of the case's length. A case that is cut short is not right.
-pub(crate) fn case_right(head: [u8; HEAD], body: &mut [u8], space: &mut [u8]) -> bool {
+pub(crate) fn case_right(rt: HostRuntime, head: [u8; HEAD], body: &mut [u8], space: &mut [u8]) -> Result<bool> {
     let n = short_at(19, &head);
     if body.len() < n {
-        return false;
+        return Ok(false);
     }
-    if io::read_full(STDIN_FILENO, &mut body[0..n]) < n {
-        return false;
+    if read_full(&mut rt.stdin(), &mut body[0..n])? < n {
+        return Ok(false);
     }
     let size = word_at(1, &head) as usize;
     if space.len() < size {
-        return false;
+        return Ok(false);
     }
-    is_right(head, &body[0..n], &mut space[0..size])
+    Ok(is_right(head, &body[0..n], &mut space[0..size]))
 }
 
 // Takes the inputs off the front; whether the call gives the right answer, and leaves the right room.

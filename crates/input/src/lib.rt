@@ -1,0 +1,21 @@
+// Input read into a room that is lent.
+#![tactic(auto)]
+
+ghost use Rattle.std.specs.Prelude.{◌≤◌, length, IfOk};
+
+use std::io::{Read, Result};
+
+// Reads until the room is full or the input has ended; returns how many bytes it read.
+pub fn read_full<R: Read>(reader: &mut R, room: &mut [u8]) -> Result<usize>
+    ensures { IfOk result (λ n. n ≤ length room.new) }
+{
+    let mut at = 0;
+    while at < room.len() {
+        let n = reader.read(&mut room[at..])?;
+        if n == 0 {
+            break;
+        }
+        at += n;
+    }
+    Ok(at)
+}
