@@ -1,7 +1,6 @@
 -- What a call for a part of the key leaves for a piece: the refusal, or the slots of the lines that fit. From the promise of the call and the laws of parts.
 use Rattle.std.specs.Prelude.{if◌then◌else◌}
-use Rattle.std.proofs.Common.{◌≡◌, ℕ, ◌+◌, ◌-◌, ◌*◌, ◌/◌, ◌<◌, ◌≤◌, min, Bool, true, false, eqb, ltb, leb, List, [], length, get_or, take, drop, sym, refl, ap, ◌∙◌, arith, length-take, take_all, ltb-false, ltb-true, eq-eqb, le-leb}
-use Rattle.keylaws.specs.Rules.{Word}
+use Rattle.std.proofs.Common.{◌≡◌, ℕ, ◌-◌, ◌*◌, ◌/◌, ◌<◌, ◌≤◌, min, Bool, true, false, eqb, ltb, leb, List, [], length, get_or, take, drop, sym, refl, ap, ◌∙◌, arith, length-take, take_all, ltb-false, ltb-true, eq-eqb, le-leb}
 use Rattle.keylaws.specs.Slots.{slot_of, slots}
 use Rattle.keylaws.specs.Continuation.{is_continuation}
 use Rattle.keylaws.specs.Parts.{Part, handed, part, written}

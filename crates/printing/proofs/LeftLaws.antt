@@ -1,5 +1,5 @@
 -- What is left of an accepted question's key after any continuation: its slots and lines, and where a piece of it leaves the rest. From the laws of keys.
-use Rattle.std.proofs.Common.{◌≡◌, ℕ, suc, ◌+◌, ◌-◌, ◌*◌, ◌<◌, ◌≤◌, Bool, true, false, ltb, List, [], ◌∷◌, ◌++◌, length, get_or, take, drop, refl, ap, ◌∙◌, arith, length-take, length-take-le, take-suc, drop_at, ltb-false, ltb-true}
+use Rattle.std.proofs.Common.{◌≡◌, ℕ, suc, ◌-◌, ◌*◌, ◌<◌, ◌≤◌, Bool, true, false, ltb, List, [], ◌++◌, length, get_or, take, drop, refl, ap, ◌∙◌, arith, length-take-le, take-suc, drop_at, ltb-false, ltb-true}
 use lib.ListN.{get_or-eq_default}
 use Rattle.keylaws.specs.Rules.{Word}
 use Rattle.keylaws.specs.Key.{Answer, Permitted, ◌among◌}
@@ -10,7 +10,6 @@ use Rattle.keylaws.proofs.ExactlyTheAnswers.{sound}
 use Rattle.keylaws.proofs.SlotsOfWords.{is_slot_of_word, slot_continues}
 use Rattle.keylaws.proofs.SlotBytes.{slots_append, slots_one, Short, short_take, length_slots}
 use Rattle.keylaws.proofs.AfterContinuation.{exactly_those_after, after_an_answer}
-use Rattle.keylaws.proofs.KeyIsBounded.{key_few}
 use Rattle.keytext.specs.Text.{lines}
 use Rattle.keytext.proofs.LinesOfSlots.{lines_short}
 use Rattle.keytext.proofs.WordLaws.{Bytes}

@@ -2,12 +2,11 @@
 -- the definitions. So there is an accepted question, and its key is not empty. Assumes nothing.
 use Rattle.std.proofs.Common.{◌≡◌, ℕ, List, [], ◌∷◌, refl}
 use mathlib.Core.List.{flatten}
-use Rattle.paper.specs.Read.{refused, answered, read_of}
+use Rattle.paper.specs.Read.{answered, read_of}
 use Rattle.paper.specs.Refusal.{counts_in_range, refusal_of}
-use Rattle.paper.specs.Question.{written}
 use Rattle.forms.specs.Whole.{whole}
 use Rattle.records.specs.Plan.{plan}
-use Rattle.records.specs.Situation.{situation, codes_of, in_range, said, situation_of}
+use Rattle.records.specs.Situation.{situation, in_range, said, situation_of}
 use Rattle.records.specs.Lists.{events, readings, answer_length, event_at}
 use Rattle.records.specs.Question.{question}
 use Rattle.lists.specs.Refusal.{event_refusal, events_refusal, listed, listed_twice, readings_in_range, lists_refusal}
@@ -15,8 +14,8 @@ use Rattle.rulebook.specs.Apply.{refusal_at, led_at, acted, stepped}
 use Rattle.aspects.specs.Aspects.{shows}
 use Rattle.signals.specs.Readings.{value_read}
 use Rattle.rules.specs.RulesOf.{all_hold}
-use Rattle.keylaws.specs.Key.{empty_if, through, in_turn, answers, reached}
-use Rattle.keytext.specs.Text.{spaced, line, lines, words_in, words, labelled}
+use Rattle.keylaws.specs.Key.{empty_if, through, in_turn, answers}
+use Rattle.keytext.specs.Text.{spaced, line, lines, labelled}
 use Rattle.keytext.specs.Decimal.{digits_in, decimal}
 use Rattle.printing.specs.Printed.{printed}
 

@@ -5,7 +5,6 @@ use Rattle.words.specs.Words.{◌or◌}
 use Rattle.keylaws.specs.Continuation.{is_continuation}
 use Rattle.keylaws.proofs.Tests.{never}
 use Rattle.keytext.specs.Text.{refused}
-use Rattle.paper.specs.Read.{read_of}
 use Rattle.keys.specs.Key.{Accepted, question_in, rules}
 use Rattle.printing.specs.Pieces.{the_end, refusal, left, Given, last_piece, lines_piece, fitting, piece}
 use Rattle.printing.specs.declared.Progress.{Progress}

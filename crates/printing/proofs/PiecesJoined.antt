@@ -1,10 +1,8 @@
 -- The pieces joined are the whole text, in whatever rooms, once the printing has ended; and in rooms of 47 bytes or more it ends. From the laws of what is left.
-use Rattle.std.specs.Prelude.{if◌then◌else◌}
-use Rattle.std.proofs.Common.{◌≡◌, ℕ, zero, suc, ◌+◌, ◌-◌, ◌*◌, ◌%◌, ◌^◌, ◌<◌, ◌≤◌, Bool, true, false, eqb, ltb, leb, List, [], ◌∷◌, ◌++◌, length, get_or, take, drop, sym, refl, ap, ◌∙◌, append_assoc, append-nil, arith, length-append, length-drop, take-append-drop, length-take-le, le-ltb, eq-eqb, eqb-true, leb-false}
+use Rattle.std.proofs.Common.{◌≡◌, ℕ, zero, suc, ◌+◌, ◌-◌, ◌%◌, ◌^◌, ◌<◌, ◌≤◌, Bool, true, false, eqb, ltb, List, [], ◌∷◌, ◌++◌, length, take, drop, sym, refl, ap, ◌∙◌, append_assoc, append-nil, arith, length-append, length-drop, take-append-drop, le-ltb, eq-eqb, eqb-true}
 use mathlib.Core.List.{flatten}
 use Rattle.words.specs.Words.{◌or◌}
 use Rattle.keylaws.specs.Rules.{Word}
-use Rattle.keylaws.specs.Continuation.{from_start, answers_after}
 use Rattle.keylaws.proofs.Tests.{never}
 use Rattle.keylaws.proofs.SlotsOfWords.{start_continues}
 use Rattle.keylaws.proofs.AfterContinuation.{after_the_start}

@@ -1,6 +1,5 @@
 -- No text is longer than the lines of the longest key and a total. From the refusals' numbers and the bound of keys.
 use Rattle.std.proofs.Common.{◌≡◌, ℕ, ◌≤◌, Bool, true, false, eqb, List, length, refl, arith, length-append, eqb-true}
-use Rattle.words.specs.Words.{◌and◌}
 use Rattle.paper.specs.Read.{read_of}
 use Rattle.paper.proofs.RefusalsBelow.{read_below}
 use Rattle.keylaws.proofs.AfterContinuation.{after_the_start}

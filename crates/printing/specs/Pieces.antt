@@ -1,12 +1,11 @@
 -- The text is handed out in pieces, each by a call with lent room. The pieces joined are `printed` (proofs/PiecesJoined.antt).
-use Rattle.std.specs.Prelude.{ℕ, ◌+◌, ◌-◌, ◌/◌, ◌%◌, ◌^◌, ◌≤◌, min, Bool, true, false, ltb, List, [], ◌∷◌, ◌++◌, length, take, nat_eq, nat_le, slice_index_or, if◌then◌else◌}
+use Rattle.std.specs.Prelude.{ℕ, ◌+◌, ◌-◌, ◌/◌, ◌%◌, ◌^◌, ◌≤◌, min, true, false, ltb, List, [], ◌∷◌, ◌++◌, length, take, nat_eq, nat_le, slice_index_or, if◌then◌else◌}
 use mathlib.Core.List.{flatten}
 use Rattle.words.specs.Words.{◌or◌}
 use Rattle.keylaws.specs.Rules.{Word}
 use Rattle.keylaws.specs.Slots.{slot_of}
 use Rattle.keylaws.specs.Continuation.{from_start, is_continuation, answers_after}
 use Rattle.keytext.specs.Text.{lines, total, refused}
-use Rattle.paper.specs.Question.{Question}
 use Rattle.paper.specs.Read.{read_of}
 use Rattle.keys.specs.Key.{question_in, rules}
 use Rattle.printing.specs.declared.Progress.{Progress}
