@@ -9,7 +9,6 @@ use native.Mathlib.Omega.{arith}
 use borrow.Author.Tests.{eqb-true, eq-eqb}
 use lib.ListN.{length}
 use lib.Dec.{T, leb}
-use Rattle.words.specs.Words.{◌and◌}
 use Rattle.words.proofs.Tests.{holds_is}
 use Rattle.forms.specs.Whole.{Whole}
 use Rattle.forms.proofs.Reading.{both}

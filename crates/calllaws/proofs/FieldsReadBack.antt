@@ -8,7 +8,7 @@ use native.Mathlib.Omega.{arith}
 use lib.ListN.{length, drop, get_or, length-take, length-drop}
 use borrow.Author.Tests.{eqb-true}
 use lib.Dec.{eqb, leb}
-use Rattle.words.specs.Words.{◌and◌, flag}
+use Rattle.words.specs.Words.{flag}
 use Rattle.words.proofs.Tests.{is_holds, if_case}
 use Rattle.keylaws.proofs.Tests.{both}
 use Rattle.forms.specs.Whole.{Whole, refused as no_form, accepted as form}
@@ -26,7 +26,6 @@ use Rattle.rulebook.proofs.NamesRight.{name_below as named-below}
 use Rattle.signals.specs.Readings.{can_be_read, value_read, told as value_told, nothing_told}
 use Rattle.signals.specs.declared.readings.Told.{Told}
 use Rattle.records.specs.Lists.{event_at}
-use Rattle.records.specs.Question.{question}
 use Rattle.lists.specs.Refusal.{◌unless◌, ◌or_else◌, event_refusal}
 use Rattle.rules.specs.RulesOf.{name_told}
 use Rattle.paper.specs.Question.{Question}

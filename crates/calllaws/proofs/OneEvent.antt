@@ -1,7 +1,7 @@
 -- One call of `folvkin_event`, on records that say a plan and a sound situation: it tells what `applied` gives, and writes the records of the
 -- situation after. Assumes nothing.
 use Rattle.std.specs.Prelude.{if◌then◌else◌}
-use Prim.Native.Nat.{ℕ, ◌+◌, ◌≤◌}
+use Prim.Native.Nat.{ℕ, ◌≤◌}
 use mathlib.Core.Path.{◌≡◌, refl, sym, ap, ap₂, ◌∙◌}
 use mathlib.Core.Bool.{Bool, true, false, not}
 use mathlib.Core.List.{List, [], ◌∷◌, ◌++◌}
@@ -19,12 +19,11 @@ use Rattle.block.specs.declared.event.Event.{Event}
 use Rattle.rulebook.specs.Situation.{Kept}
 use Rattle.rulebook.specs.Sound.{sound}
 use Rattle.rulebook.specs.Judged.{judged}
-use Rattle.rulebook.specs.Apply.{event, known, argument_right, own_refusal, reached, accepted, refused, acted, stepped, applied, Outcome}
+use Rattle.rulebook.specs.Apply.{known, argument_right, own_refusal, reached, accepted, refused, acted, stepped, applied, Outcome}
 use Rattle.rulebook.specs.Names.{name}
 use Rattle.rulebook.proofs.RefusalsBelow.{applied_below}
 use Rattle.rulebook.proofs.NamesRight.{name_below}
 use Rattle.rulebook.proofs.SoundnessKept.{soundness_kept}
-use Rattle.records.specs.Plan.{plan}
 use Rattle.records.specs.Situation.{codes_of, situation}
 use Rattle.records.proofs.RecordLaws.{situation_law}
 use Rattle.records.proofs.CodesLaws.{codes_say, codes_fit}

@@ -7,7 +7,7 @@ use native.Mathlib.Omega.{arith}
 use lib.ListN.{length, get_or}
 use lib.Dec.{T}
 use Rattle.keylaws.specs.Rules.{Word}
-use Rattle.keylaws.specs.Key.{reached, Accepted, Answer, ◌among◌}
+use Rattle.keylaws.specs.Key.{reached, Accepted, Answer}
 use Rattle.keylaws.proofs.Among.{among_at, in_map, of_map}
 use Rattle.block.specs.declared.event.Event.{Event}
 use Rattle.rulebook.specs.Situation.{Kept}

@@ -143,7 +143,7 @@ module _ (plan : Plan) where
   is_seen x (towards_A_show vs) = show_from x 129 vs
   is_seen x (orientation s is v) = eqb (value_read plan x 2 s) v
   is_seen x (annulment s is v) = eqb (value_read plan x 3 s) v
-  is_seen x (line_reads_lem v) = eqb (value_read plan x 5 0) v
+  is_seen x (line_reads v) = eqb (value_read plan x 5 0) v
 
   abbrev pub all_seen : Kept → List Seen → Bool
   all_seen x [] = true
@@ -230,17 +230,17 @@ table =
     -- ten seconds after a stray occupation (02, Req 02): 13 names section 0, the line is not free, and its first section does not turn it
     ∷ ((SOBB at A gives 0 ∷ COBB at B gives 0 ∷ occupied at 3 gives 0 ∷ freed at 3 gives 0 ∷ exit_route at B gives 13 naming 0 ∷ 9 seconds_pass ∷ exit_route at B gives 13 naming 0 ∷ 1 seconds_pass ∷ exit_route at B gives 0 ∷ [])
     then (orientation B is 1 ∷ []))
-    ∷ ((occupied at 3 gives 0 ∷ freed at 3 gives 0 ∷ 9 seconds_pass ∷ []) then (line_reads_lem 1 ∷ []))
-    ∷ ((occupied at 3 gives 0 ∷ freed at 3 gives 0 ∷ 10 seconds_pass ∷ []) then (line_reads_lem 0 ∷ []))
-    ∷ ((SOBB at A gives 0 ∷ COBB at B gives 0 ∷ occupied at 3 gives 0 ∷ freed at 3 gives 0 ∷ occupied at 4 gives 0 ∷ freed at 4 gives 0 ∷ 9 seconds_pass ∷ []) then (orientation B is 2 ∷ line_reads_lem 1 ∷ []))
+    ∷ ((occupied at 3 gives 0 ∷ freed at 3 gives 0 ∷ 9 seconds_pass ∷ []) then (line_reads 1 ∷ []))
+    ∷ ((occupied at 3 gives 0 ∷ freed at 3 gives 0 ∷ 10 seconds_pass ∷ []) then (line_reads 0 ∷ []))
+    ∷ ((SOBB at A gives 0 ∷ COBB at B gives 0 ∷ occupied at 3 gives 0 ∷ freed at 3 gives 0 ∷ occupied at 4 gives 0 ∷ freed at 4 gives 0 ∷ 9 seconds_pass ∷ []) then (orientation B is 2 ∷ line_reads 1 ∷ []))
     -- an exit route of the station that is out ends it
-    ∷ ((SOBB at A gives 0 ∷ COBB at B gives 0 ∷ occupied at 3 gives 0 ∷ freed at 3 gives 0 ∷ exit_route at A gives 0 ∷ exit_released at A gives 0 ∷ []) then (line_reads_lem 0 ∷ []))
+    ∷ ((SOBB at A gives 0 ∷ COBB at B gives 0 ∷ occupied at 3 gives 0 ∷ freed at 3 gives 0 ∷ exit_route at A gives 0 ∷ exit_released at A gives 0 ∷ []) then (line_reads 0 ∷ []))
     -- AFBLE that stays on its own first section does not stop the mark; A's first section does not turn the line either; the argument is 0
-    ∷ ((AFBLE at A gives 0 ∷ occupied at 1 gives 0 ∷ freed at 1 gives 0 ∷ []) then (annulment A is 2 ∷ line_reads_lem 1 ∷ []))
+    ∷ ((AFBLE at A gives 0 ∷ occupied at 1 gives 0 ∷ freed at 1 gives 0 ∷ []) then (annulment A is 2 ∷ line_reads 1 ∷ []))
     ∷ ((SOBB at B gives 0 ∷ COBB at A gives 0 ∷ occupied at 2 gives 0 ∷ freed at 2 gives 0 ∷ occupied at 1 gives 0 ∷ second_passed at 1 gives 4 ∷ []) then (orientation A is 2 ∷ []))
     -- across the frontier nothing is expected with link down
     ∷ ((SOBB at A gives 0 ∷ COBB at B gives 0 ∷ exit_route at A gives 0 ∷ occupied at 1 gives 0 ∷ exit_released at A gives 0 ∷ occupied at 2 gives 0 ∷ link_lost at 0 gives 0 ∷ occupied at 3 gives 0 ∷ freed at 1 gives 0 ∷ freed at 2 gives 0 ∷ freed at 3 gives 0 ∷ link_restored at 0 gives 0 ∷ [])
-    then (line_reads_lem 1 ∷ []))
+    then (line_reads 1 ∷ []))
     -- what is sound of mark and count
     ∷ (with_mark true counting 10 on_sections 0 and_route no_route is_judged 0)
     ∷ (with_mark true counting 0 on_sections 4 and_route no_route is_judged 0)
@@ -269,5 +269,5 @@ table =
     ∷ ((AFBLI at A gives 0 ∷ BILC at B gives 0 ∷ BSLG at B gives 0 ∷ BSLB at 3 gives 0 ∷ []) then_in_2012_judged 0)
     -- a train that is expected everywhere leaves a free line behind it at once
     ∷ ((SOBB at A gives 0 ∷ COBB at B gives 0 ∷ exit_route at A gives 0 ∷ occupied at 1 gives 0 ∷ exit_released at A gives 0 ∷ occupied at 2 gives 0 ∷ freed at 1 gives 0 ∷ occupied at 3 gives 0 ∷ freed at 2 gives 0 ∷ freed at 3 gives 0 ∷ [])
-    then (line_reads_lem 0 ∷ []))
+    then (line_reads 0 ∷ []))
     ∷ []

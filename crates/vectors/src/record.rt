@@ -12,7 +12,12 @@ pub(crate) const HEAD: usize = 21;
 pub(crate) const BODY: usize = 65536;
 
 // Reads the rest of a case and runs it in a room of the case's length. A case that is cut short is not right.
-pub(crate) fn case_right(rt: HostRuntime, head: [u8; HEAD], body: &mut [u8], space: &mut [u8]) -> Result<bool> {
+pub(crate) fn case_right(
+    rt: HostRuntime,
+    head: [u8; HEAD],
+    body: &mut [u8],
+    space: &mut [u8],
+) -> Result<bool> {
     let n = short_at(19, &head);
     if body.len() < n {
         return Ok(false);

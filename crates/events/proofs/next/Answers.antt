@@ -36,10 +36,10 @@ pub returns-in-9 : goal.returns-in-9
 returns-in-9 c = let a = c.args in led_as a.plan (unpacked a.x) a.event c.in-9.is (led_seen a.plan (unpacked a.x) a.event c.at_station-at.ensures c.seen_from-seen.ensures BslgOff c.bslg_off.ensures c.seen_from-in-9.ensures)
 
 pub returns-in-10 : goal.returns-in-10
-returns-in-10 c = let a = c.args in led_as a.plan (unpacked a.x) a.event c.in-10.is (bslb_led (spot_named a.plan section a.event.argument) (unpacked a.x) (c.bslb.ensures ∙ ap (λ (s : Spot). leads Bslb s (unpacked a.x)) c.at_owner.ensures))
+returns-in-10 c = let a = c.args in led_as a.plan (unpacked a.x) a.event c.in-10.is (bslb_led (spot_named a.plan section a.event.argument) (unpacked a.x) (search rules))
 
 pub returns-in-11 : goal.returns-in-11
-returns-in-11 c = let a = c.args in led_as a.plan (unpacked a.x) a.event c.in-11.is (bslb_off_led (spot_named a.plan section a.event.argument) (unpacked a.x) (c.bslb_off.ensures ∙ ap (λ (s : Spot). leads BslbOff s (unpacked a.x)) c.at_owner-in-11.ensures))
+returns-in-11 c = let a = c.args in led_as a.plan (unpacked a.x) a.event c.in-11.is (bslb_off_led (spot_named a.plan section a.event.argument) (unpacked a.x) (search rules))
 
 pub returns-in-12 : goal.returns-in-12
 returns-in-12 c = let a = c.args in led_as a.plan (unpacked a.x) a.event c.in-12.is (led_seen a.plan (unpacked a.x) a.event c.at_station-at.ensures c.seen_from-seen.ensures Reminder c.reminder.ensures c.seen_from-in-12.ensures)
