@@ -1,4 +1,4 @@
--- Aspects written one after the other into a room: the room holds Those written so far, then what it held. Assumes nothing.
+-- Aspects written one after the other into a room: the room holds those written so far, then what it held. Assumes nothing.
 use Rattle.std.specs.Prelude.{if◌then◌else◌}
 use Prim.Native.Nat.{ℕ, zero, suc, ◌+◌, ◌-◌, ◌/◌, ◌%◌, ◌^◌, ◌≤◌, ◌<◌}
 use mathlib.Core.Path.{◌≡◌, refl, sym, ap, ap₂, ◌∙◌}

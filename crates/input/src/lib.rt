@@ -1,13 +1,15 @@
 // Input read into a room that is lent.
 #![tactic(auto)]
 
-ghost use Rattle.std.specs.Prelude.{◌≤◌, length, IfOk};
+ghost use Rattle.std.specs.Prelude.{◌≡◌, ◌≤◌, length, IfOk};
 
 use std::io::{Read, Result};
 
-// Reads until the room is full or the input has ended; returns how many bytes it read.
+// Reads until the room is full or the input has ended; returns how many bytes it read. The one error is the reader's own; the room then has
+// what was read before it.
 pub fn read_full<R: Read>(reader: &mut R, room: &mut [u8]) -> Result<usize>
-    ensures { IfOk result (λ n. n ≤ length room.new) }
+    ensures within { IfOk result (λ n. n ≤ length room.new) }
+    ensures kept { length room.new ≡ length room.old }
 {
     let mut at = 0;
     while at < room.len() {

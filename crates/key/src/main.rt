@@ -11,18 +11,20 @@ use std::io::{Print, Result};
 // A question has at most 79 bytes: of a longer input one byte more is enough to refuse it.
 const INPUT: usize = 80;
 
-// Reads as much of standard input as its text depends on: whatever bytes follow, the text is the same.
+// Reads as much of standard input as its text depends on: whatever bytes follow, the text is the same. The one error is that of a read.
 fn read_input(rt: HostRuntime, input: &mut [u8; INPUT]) -> Result<usize>
     ensures enough { Enough (length input.old) }
     ensures within { IfOk result (λ n. n ≤ length input.new) }
+    ensures kept { length input.new ≡ length input.old }
 {
     read_full(&mut rt.stdin(), input)
 }
 
-// Writes the question's text, piece by piece, until it has ended; returns how many bytes the pieces had.
+// Writes the question's text, piece by piece, until it has ended; returns how many bytes the pieces had. The one error is that of a write.
 fn print_text(rt: HostRuntime, question: &[u8], room: &mut [u8]) -> Result<u64>
     requires { 47 ≤ length room.old }
-    ensures { IfOk result (λ n. n ≡ length (printed question.now)) }
+    ensures told { IfOk result (λ n. n ≡ length (printed question.now)) }
+    ensures kept { length room.new ≡ length room.old }
 {
     let mut progress = start();
     let mut printed: u64 = 0;

@@ -19,7 +19,7 @@ const YELLOW: u8 = 1;
 
 const GREEN: u8 = 2;
 
-// The signals of a direction that are not red, and Those that are green, by their sections.
+// The signals of a direction that are not red, and those that are green, by their sections.
 #[derive(Clone, Copy)]
 pub struct Lights {
     pub open: u64,
@@ -125,7 +125,7 @@ fn edge(plan: Plan, d: Direction) -> u8
     }
 }
 
-// The signals whose next one is not red, m being Those that are not red themselves. The next after the last is the entry signal; a next
+// The signals whose next one is not red, m being those that are not red themselves. The next after the last is the entry signal; a next
 // signal across the frontier is read as red when link is down.
 fn next_open(plan: Plan, x: Situation, d: Direction, m: u64) -> u64
     requires { (is_plan plan ≡ true) × Those plan (is_open plan (unpacked x) d) m }
@@ -140,7 +140,7 @@ fn next_open(plan: Plan, x: Situation, d: Direction, m: u64) -> u64
     either(minus(next, last), entered)
 }
 
-// The green signals, m being Those that are not red: a signal that is not red is yellow if the next one is red and green otherwise.
+// The green signals, m being those that are not red: a signal that is not red is yellow if the next one is red and green otherwise.
 fn green_signals(plan: Plan, x: Situation, d: Direction, m: u64) -> u64
     requires { (is_plan plan ≡ true) × Those plan (is_open plan (unpacked x) d) m }
     ensures { Those plan (is_green plan (unpacked x) d) result }

@@ -28,5 +28,5 @@ loop-progress-preserved c =
     let adds : d.result.length + length (rest c.args.question.now d.result.next) ≡ length (rest c.args.question.now c.loop-progress.progress) = rw (d.ensures.told, d.ensures.next) (lengths_add c.args.question.now c.loop-progress.progress (length c.loop-progress.room)) in
     (c.next_piece-piece.auto.room ∙ c.loop-progress.invariant.0, omega (arith, adds, c.loop-progress.invariant.1))
 
-pub returns : goal.returns
-returns c = omega (arith, c.loop-progress.invariant.1, ap length (nothing_left c.args.question.now c.loop-progress.progress (not-false _ c.loop-progress-test.false)))
+pub returns-clause-told : goal.returns-clause-told
+returns-clause-told c = omega (arith, c.loop-progress.invariant.1, ap length (nothing_left c.args.question.now c.loop-progress.progress (not-false _ c.loop-progress-test.false)))
