@@ -2,14 +2,14 @@
 use super::line::{Direction, Name, Plan};
 
 // "An event is two bytes, code and argument."
-#[derive(Clone, Copy)]
+#[derive(Clone, Copy, Debug, PartialEq, Eq)]
 pub struct Event {
     pub code: u8,
     pub argument: u8,
 }
 
 // What its bytes name: own, and the section and direction where the argument has them.
-#[derive(Clone, Copy)]
+#[derive(Clone, Copy, Debug, PartialEq, Eq)]
 pub struct Spot {
     pub plan: Plan,
     pub own: Name,

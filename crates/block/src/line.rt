@@ -4,25 +4,26 @@ ghost use Rattle.words.specs.Words.{◌and◌};
 ghost use Rattle.sections.specs.Sections.{◌belongs_to◌};
 ghost use Rattle.block.specs.Line.{is_plan, plan_judged, is_section, some_section, in_area, owner, first_section, is_first, station_named, opposite, away, toward, entrance, terminus, before, across_frontier, direction_of, section_of, is_signal, is_exit, is_block_signal};
 ghost use Rattle.block.specs.Areas.{AreaOf};
+ghost use Rattle.block.specs.Refusals.{told};
 
-use super::refused::{ACCEPTED, NO_PLAN};
+use super::refused::{Refusal, refuse_if};
 use sections::{both, minus, sections_to};
 
 // Its last field says the edition: the rules of 2012, or those of 2024 (02, Req 05).
-#[derive(Clone, Copy)]
+#[derive(Clone, Copy, Debug, PartialEq, Eq)]
 pub struct Plan {
     pub sections: u8,
     pub frontier: u8,
     pub rules2012: bool,
 }
 
-#[derive(Clone, Copy)]
+#[derive(Clone, Copy, Debug, PartialEq, Eq)]
 pub enum Name {
     StationA,
     StationB,
 }
 
-#[derive(Clone, Copy)]
+#[derive(Clone, Copy, Debug, PartialEq, Eq)]
 pub enum Direction {
     TowardsA,
     TowardsB,
@@ -47,10 +48,11 @@ impl Plan {
     pub fn owner(self, k: u16) -> Name
         ensures { result ≡ owner self k }
     {
-        if k <= self.frontier as u16 {
-            return Name::StationA;
+        if k <= u16::from(self.frontier) {
+            Name::StationA
+        } else {
+            Name::StationB
         }
-        Name::StationB
     }
 
     // The sections of a station's area, of those that a word has a bit for.
@@ -84,83 +86,72 @@ impl Plan {
     pub fn is_first(self, s: Name, k: u16) -> bool
         ensures { result ≡ is_first self s k }
     {
-        let first = self.first_section(s);
-        k == first as u16
+        k == u16::from(self.first_section(s))
     }
 
     // Whether j and k, two sections that follow each other, lie in different areas.
     pub fn across_frontier(self, j: u16, k: u16) -> bool
         ensures { result ≡ across_frontier self j k }
     {
-        let frontier = self.frontier as u16;
-        if j <= frontier {
-            return !(k <= frontier);
-        }
-        k <= frontier
+        self.owner(j) != self.owner(k)
     }
 
     pub fn is_signal(self, signal: u8) -> bool
         ensures { result ≡ is_signal self signal }
     {
-        let k = section_of(signal);
-        self.is_section(k)
+        self.is_section(section_of(signal))
     }
 
     fn is_exit(self, d: Direction, k: u16) -> bool
         ensures { result ≡ is_exit self d k }
     {
-        let s = d.entrance();
-        self.is_first(s, k)
+        self.is_first(d.entrance(), k)
     }
 
     pub fn is_block_signal(self, signal: u8) -> bool
         ensures { result ≡ is_block_signal self signal }
     {
-        let d = direction_of(signal);
-        let k = section_of(signal);
-        let exit = self.is_exit(d, k as u16);
+        let k = u16::from(section_of(signal));
+        let exit = self.is_exit(direction_of(signal), k);
         self.is_signal(signal) & !exit
     }
 }
 
-// 0 where it is a plan, else the refusal.
-pub fn plan_judged(plan: Plan) -> u8
-    ensures { result ≡ plan_judged plan }
+// Refused where it is no plan.
+pub fn plan_judged(plan: Plan) -> Result<(), Refusal>
+    ensures { told result ≡ plan_judged plan }
 {
-    if plan.is_plan() {
-        return ACCEPTED;
-    }
-    NO_PLAN
+    refuse_if(!plan.is_plan(), Refusal::NoPlan)
 }
 
-// "Station argument: 0 A, 1 B."
+// "Station argument: 0 A, 1 B." Not a From: a byte names a station only as an argument, and a signal's byte a direction and a section.
 pub fn station_named(arg: u8) -> Name
     ensures { result ≡ station_named arg }
 {
     if arg == 1 {
-        return Name::StationB;
+        Name::StationB
+    } else {
+        Name::StationA
     }
-    Name::StationA
 }
 
 pub fn direction_of(signal: u8) -> Direction
     ensures { result ≡ direction_of signal }
 {
     if 128 <= signal {
-        return Direction::TowardsA;
+        Direction::TowardsA
+    } else {
+        Direction::TowardsB
     }
-    Direction::TowardsB
 }
 
 pub fn section_of(signal: u8) -> u8
     ensures { result ≡ section_of signal }
 {
-    if 128 <= signal {
-        return signal - 128;
-    }
-    signal
+    signal % 128
 }
 
+// The document's words of stations and directions, each a table of its own: one by way of another is no plainer.
 impl Name {
     pub fn opposite(self) -> Name
         ensures { result ≡ opposite self }
@@ -190,21 +181,6 @@ impl Name {
     }
 }
 
-fn one_more(k: u8) -> u16
-    ensures { result ≡ k + 1 }
-{
-    k as u16 + 1
-}
-
-fn one_less(k: u8) -> u16
-    ensures { result ≡ k - 1 }
-{
-    if k == 0 {
-        return 0;
-    }
-    (k - 1) as u16
-}
-
 impl Direction {
     // The station where trains enter the line in this direction.
     pub fn entrance(self) -> Name
@@ -230,8 +206,8 @@ impl Direction {
         ensures { result ≡ before self k }
     {
         match self {
-            Direction::TowardsA => one_more(k),
-            Direction::TowardsB => one_less(k),
+            Direction::TowardsA => u16::from(k) + 1,
+            Direction::TowardsB => u16::from(k).saturating_sub(1),
         }
     }
 }

@@ -1,7 +1,7 @@
 // A reading that a question asks for.
 
 // "Reading: kind, argument, value."
-#[derive(Clone, Copy)]
+#[derive(Clone, Copy, Debug, PartialEq, Eq)]
 pub struct Reading {
     pub kind: u8,
     pub argument: u8,

@@ -23,8 +23,7 @@ use Rattle.rulebook.specs.Judged.{judged}
 use Rattle.rulebook.specs.Apply.{own_refusal}
 use Rattle.rulebook.proofs.RefusalsBelow.{own_below, stepped_below}
 use Rattle.rulebook.proofs.NamesRight.{name_below as named-below}
-use Rattle.signals.specs.Readings.{can_be_read, value_read, told as value_told, nothing_told}
-use Rattle.signals.specs.declared.readings.Told.{Told}
+use Rattle.signals.specs.Readings.{Told, can_be_read, value_read, told as value_told, nothing_told}
 use Rattle.records.specs.Lists.{event_at}
 use Rattle.lists.specs.Refusal.{◌unless◌, ◌or_else◌, event_refusal}
 use Rattle.rules.specs.RulesOf.{name_told}
@@ -33,8 +32,7 @@ use Rattle.paper.specs.Read.{read_of}
 use Rattle.paper.specs.Given.{Given}
 use Rattle.paper.proofs.RefusalsBelow.{Below, later_below, unless_below, right_below, event_below, read_below}
 use Rattle.keys.specs.Key.{rules}
-use Rattle.keys.specs.Calls.{Fetch, given, nothing, part_of, fetched, told, not_run, slot_run, ran}
-use Rattle.keys.specs.declared.Ran.{Ran}
+use Rattle.keys.specs.Calls.{Fetch, given, nothing, part_of, fetched, Ran, told, not_run, slot_run, ran}
 use Rattle.folvkin.specs.Block.{longest_situation, event_in, tried_refusal, event_told, records_after, name_of, told_with, event_packed, reading_told, packed}
 use Rattle.folvkin.specs.Questions.{packed_part, packed_run, key_packed, run_packed}
 

@@ -1,1 +1,2 @@
 pub mod OwnAnswer
+pub mod Attempted

@@ -2,8 +2,7 @@
 use Prim.Native.Nat.{ℕ}
 use mathlib.Core.Path.{◌≡◌, refl, sym, ap, ◌∙◌}
 use Rattle.rulebook.specs.Situation.{Situation, Kept, seen_from, kept_from}
-use lib.Dec.{T}
-use Rattle.rulebook.specs.Table.{Kind, station, table, unknown, kind_of}
+use Rattle.rulebook.specs.Table.{Kind, station, unknown, kind_of}
 use Rattle.rulebook.specs.Apply.{refuses, leads, refusal_at, led_at, spot_named, reached}
 use Rattle.rulebook.specs.Editions.{kind_in_2024, refusal_by}
 use Rattle.block.specs.declared.line.Plan.{Plan}
@@ -12,25 +11,24 @@ use Rattle.block.specs.declared.line.Name.TheVariants.{StationA, StationB}
 use Rattle.block.specs.declared.event.Event.{Event}
 use Rattle.block.specs.declared.event.Spot.{Spot}
 use Rattle.rulebook.proofs.Settled.{stays}
-use Rattle.events.proofs.InTable.{within, None_of_the_first, past, no_kind}
 
 module _ (p : Plan) (x : Kept) (e : Event) where
   -- the spot of an event whose argument names this
   abbrev at : ℕ → Spot
   at names = spot_named p names e.argument
 
-  -- of a code, as it stands in the table
-  abbrev refusal_of_code : ℕ → ℕ
-  refusal_of_code c = refusal_at (kind_in_2024 (kind_of c)) (at (kind_of c).argument) x
+  -- of a kind of the table
+  abbrev refusal_of : Kind → ℕ
+  refusal_of k = refusal_at (kind_in_2024 k) (at k.argument) x
 
-  abbrev led_of : ℕ → Kept
-  led_of c = led_at (kind_of c) (at (kind_of c).argument) x
+  abbrev led_of : Kind → Kept
+  led_of k = led_at k (at k.argument) x
 
-  module _ {n : ℕ} (is : e.code ≡ n) where
-    pub refused_as : {r : ℕ} → r ≡ refusal_of_code n → r ≡ refusal_by kind_in_2024 p x e
-    refused_as h = h ∙ ap refusal_of_code (sym is)
+  module _ {k : Kind} (is : kind_of e.code ≡ k) where
+    pub refused_as : {r : ℕ} → r ≡ refusal_of k → r ≡ refusal_by kind_in_2024 p x e
+    refused_as h = h ∙ ap refusal_of (sym is)
 
-    pub led_as : {z : Kept} → z ≡ led_of n → z ≡ reached p x e
+    pub led_as : {z : Kept} → z ≡ led_of k → z ≡ reached p x e
     led_as h = h ∙ ap led_of (sym is)
 
   -- as own sees it
@@ -43,17 +41,14 @@ module _ (p : Plan) (x : Kept) (e : Event) where
     unfolding led_at
     led_seen h g = g ∙ ap (kept_from s.own) (h ∙ ap (leads k s) seen) ∙ ap (λ (t : Spot). kept_from t.own (leads k t (seen_from t.own x))) here
 
--- ---- a code that is none of the first n, where the table has no others
+-- ---- a code that the table does not have
 there_and_back : (s : Name) (x : Kept) → x ≡ kept_from s (seen_from s x)
 there_and_back StationA x = refl
 there_and_back StationB x = refl
 
-module _ (p : Plan) (x : Kept) (e : Event) (n : ℕ) (t : T (within n table)) (others : None_of_the_first n e.code) where
+module _ (p : Plan) (x : Kept) (e : Event) (none : kind_of e.code ≡ unknown) where
   abbrev of_kind : Kind → Spot
   of_kind k = spot_named p k.argument e.argument
-
-  none : kind_of e.code ≡ unknown
-  none = no_kind n t e.code (past n e.code others)
 
   pub refused_unknown : 3 ≡ refusal_by kind_in_2024 p x e
   unfolding refusal_at

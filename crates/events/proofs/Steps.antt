@@ -33,6 +33,20 @@ own_told : (r : ℕ) (x y : Kept) → (by_refusal r x y).refusal ≡ r
 own_told zero x y = refl
 own_told (suc r) x y = ap (λ (o : Outcome). o.refusal) (is_refused r x y)
 
+-- what an event's two bytes are refused for, before anything else
+abbrev bytes : Bool → Bool → ℕ
+bytes k a = if not k then 3 else if not a then 4 else 0
+
+bytes_first : (k a : Bool) (r : ℕ) (x y : Kept) → (bytes k a ≡ 0 → ⊥) → bytes k a ≡ (judged k a r x y).refusal
+bytes_first false a r x y d = refl
+bytes_first true false r x y d = refl
+bytes_first true true r x y d = absurd (d refl)
+
+bytes_pass : (k a : Bool) (r : ℕ) (x y : Kept) → bytes k a ≡ 0 → (judged k a r x y).refusal ≡ r
+bytes_pass false a r x y h = absurd (omega (arith, h))
+bytes_pass true false r x y h = absurd (omega (arith, h))
+bytes_pass true true r x y h = own_told r x y
+
 module _ (p : Plan) (x : Kept) (e : Event) where
   pub by_its_refusal : stepped p x e ≡ by_refusal (stepped p x e).refusal x (reached p x e)
   unfolding stepped acted
@@ -50,6 +64,15 @@ module _ (p : Plan) (x : Kept) (e : Event) where
   pub acted_refusal : (acted p x e).refusal ≡ own_refusal p x e
   unfolding acted
   acted_refusal = own_told (own_refusal p x e) x (reached p x e)
+
+  module _ {n : ℕ} (h : n ≡ bytes (known e) (argument_right p e)) where
+    pub bytes_refused : (n ≡ 0 → ⊥) → n ≡ (stepped p x e).refusal
+    unfolding stepped acted
+    bytes_refused d = h ∙ bytes_first (known e) (argument_right p e) (own_refusal p x e) x (reached p x e) (λ z. d (h ∙ z))
+
+    pub bytes_accepted : n ≡ 0 → {r : ℕ} → r ≡ own_refusal p x e → r ≡ (stepped p x e).refusal
+    unfolding stepped acted
+    bytes_accepted z g = g ∙ sym (bytes_pass (known e) (argument_right p e) (own_refusal p x e) x (reached p x e) (sym h ∙ z))
 
   -- of an event whose code is known and whose argument is right
   pub judged_refusal : known e ≡ true → argument_right p e ≡ true → (stepped p x e).refusal ≡ own_refusal p x e

@@ -1,7 +1,18 @@
 -- A reader need not believe this file: what the code hands back says this.
-use Rattle.rulebook.specs.Apply.{Outcome}
+use Rattle.std.specs.Prelude.{ℕ, Result, Ok, Err}
+use Rattle.block.specs.Refusals.{number}
+use Rattle.rulebook.specs.Situation.{Kept}
+use Rattle.rulebook.specs.Apply.{Outcome, accepted, refused}
 use Rattle.situation.specs.Packed.{unpacked}
-use Rattle.events.specs.declared.Applied.{Applied}
+use Rattle.situation.specs.declared.Situation.{Situation}
+use Rattle.events.specs.declared.Refused.{Refused}
 
-abbrev pub outcome : Applied → Outcome
-outcome r = record { refusal = r.refusal; next = unpacked r.next }
+-- of an event applied to x
+abbrev pub outcome : Kept → Result Situation Refused → Outcome
+outcome x (Ok next) = accepted (unpacked next)
+outcome x (Err r) = refused (number r.refusal) x
+
+-- what its refusal names; an accepted event names nothing
+abbrev pub named : Result Situation Refused → ℕ
+named (Ok next) = 0
+named (Err r) = r.name

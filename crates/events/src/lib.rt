@@ -1,86 +1,53 @@
 // Orders and happenings: an event on a situation as it is kept.
 #![tactic(auto)]
 
-ghost use Rattle.std.specs.Prelude.{◌≡◌};
-ghost use Rattle.rulebook.specs.Table.{station, section, kind_of, Occupied};
-ghost use Rattle.rulebook.specs.Apply.{fits, known, argument_right, spot_named, led_at, own_refusal, reached, refused, stepped, applied};
+mod code;
+
+ghost use Rattle.std.specs.Prelude.{◌≡◌, not, if◌then◌else◌};
+ghost use Rattle.block.specs.Refusals.{number, told};
+ghost use Rattle.rulebook.specs.Table.{station, section, Occupied};
+ghost use Rattle.rulebook.specs.Apply.{fits, known, argument_right, spot_named, led_at, own_refusal, reached, stepped, applied};
 ghost use Rattle.rulebook.specs.Editions.{kind_in_2024, refusal_by, added_in_2012};
 ghost use Rattle.rulebook.specs.Names.{name};
 ghost use Rattle.situation.specs.Packed.{unpacked};
-ghost use Rattle.events.specs.Outcomes.{outcome};
+ghost use Rattle.events.specs.Codes.{names};
+ghost use Rattle.events.specs.Outcomes.{outcome, named};
 
 use block::event::{Event, Spot};
 use block::line::{Plan, direction_of, section_of, station_named};
-use block::refused::{EXIT_ROUTE, OCCUPIED, UNKNOWN_CODE, WRONG_ARGUMENT};
+use block::refused::{Refusal, refuse_if};
+use code::{Argument, Code};
 use names::{lowest_occupied, route_holder};
 use situation::Situation;
 use soundness::judged;
 
-// What an argument names; 0 of no event.
-const UNKNOWN: u8 = 0;
-
-const STATION: u8 = 1;
-
-const SIGNAL: u8 = 2;
-
-const SECTION: u8 = 3;
-
-const NOTHING: u8 = 4;
-
-// The refusal, 0 where the event is accepted, what it names, and the situation after.
-#[derive(Clone, Copy)]
-pub struct Applied {
-    pub refusal: u8,
+// What refuses an event, and what that names.
+#[derive(Clone, Copy, Debug, PartialEq, Eq)]
+pub struct Refused {
+    pub refusal: Refusal,
     pub name: u8,
-    pub next: Situation,
 }
 
-// What the argument of each code names.
-fn argument_of(code: u8) -> u8
-    ensures { result ≡ (kind_of code).argument }
+fn fits(plan: Plan, argument: Argument, arg: u8) -> bool
+    ensures { result ≡ fits plan (names argument) arg }
 {
-    if (code == 10) | (code == 11) {
-        return SIGNAL;
+    match argument {
+        Argument::Station => arg <= 1,
+        Argument::Signal => plan.is_block_signal(arg),
+        Argument::Section => plan.is_section(arg),
+        Argument::Nothing => arg == 0,
     }
-    if (code == 19) | (code == 20) {
-        return SECTION;
-    }
-    if (21 <= code) & (code <= 23) {
-        return NOTHING;
-    }
-    if (1 <= code) & (code <= 18) {
-        return STATION;
-    }
-    UNKNOWN
 }
 
-fn fits(plan: Plan, names: u8, arg: u8) -> bool
-    ensures { result ≡ fits plan names arg }
+// 3 unknown code; 4 argument.
+pub fn bytes_refusal(plan: Plan, event: Event) -> Result<(), Refusal>
+    ensures { told result ≡ (if not (known event) then 3 else if not (argument_right plan event) then 4 else 0) }
 {
-    if names == SIGNAL {
-        return plan.is_block_signal(arg);
-    }
-    if names == SECTION {
-        return plan.is_section(arg);
-    }
-    if names == NOTHING {
-        return arg == 0;
-    }
-    arg <= 1
-}
-
-pub fn known(event: Event) -> bool
-    ensures { result ≡ known event }
-{
-    let names = argument_of(event.code);
-    names != UNKNOWN
-}
-
-pub fn argument_right(plan: Plan, event: Event) -> bool
-    ensures { result ≡ argument_right plan event }
-{
-    let names = argument_of(event.code);
-    fits(plan, names, event.argument)
+    let code = Code::try_from(event.code)?;
+    refuse_if(
+        !fits(plan, code.argument(), event.argument),
+        Refusal::WrongArgument,
+    )
 }
 
 // Where an event of a station happens, or of the link or a second, for which A stands.
@@ -115,70 +82,64 @@ fn at_owner(plan: Plan, arg: u8) -> Spot
 
 // What refuses the event in 2024, of a code that is known and an argument that is right. What refuses an event of a section or of a signal
 // is the same as either station sees it.
-pub fn refusal_in_2024(plan: Plan, x: Situation, event: Event) -> u8
-    ensures { result ≡ refusal_by kind_in_2024 plan (unpacked x) event }
+pub fn refusal_in_2024(plan: Plan, x: Situation, event: Event) -> Result<(), Refusal>
+    ensures { told result ≡ refusal_by kind_in_2024 plan (unpacked x) event }
 {
-    let code = event.code;
+    let code = Code::try_from(event.code)?;
     let arg = event.argument;
     let at = at_station(plan, arg);
-    let own = at.own;
-    let seen = x.seen_from(own);
+    let seen = x.seen_from(at.own);
     match code {
-        1 => refusals::sobb_refusal(seen, at),
-        2 => refusals::cobb_refusal(seen, at),
-        3 => refusals::afbli_refusal(seen, at),
-        4 => refusals::afble_refusal(seen, at),
-        5 => refusals::dafbl_refusal(seen, at),
-        6 => refusals::bilc_refusal(seen, at),
-        7 => refusals::dilc_refusal(seen, at),
-        8 => refusals::bslg_refusal(seen, at),
-        9 => refusals::bslg_off_refusal(seen, at),
-        10 => refusals::bslb_refusal(x, at_owner(plan, arg)),
-        11 => refusals::bslb_off_refusal(x, at_owner(plan, arg)),
-        12 => refusals::reminder_refusal(seen, at),
-        13 => refusals::reminder_off_refusal(seen, at),
-        14 => refusals::exit_normal_refusal(seen, at),
-        15 => refusals::exit_special_refusal(seen, at),
-        16 => refusals::exit_released_refusal(seen, at),
-        17 => refusals::entry_refusal(seen, at),
-        18 => refusals::entry_released_refusal(seen, at),
-        19 => refusals::occupied_refusal(x, at_owner(plan, arg)),
-        20 => refusals::freed_refusal(x, at_owner(plan, arg)),
-        21 => refusals::link_lost_refusal(seen, at),
-        22 => refusals::link_restored_refusal(seen, at),
-        23 => refusals::second_refusal(seen, at),
-        _ => UNKNOWN_CODE,
+        Code::Sobb => refusals::sobb_refusal(seen, at),
+        Code::Cobb => refusals::cobb_refusal(seen, at),
+        Code::Afbli => refusals::afbli_refusal(seen, at),
+        Code::Afble => refusals::afble_refusal(seen, at),
+        Code::Dafbl => refusals::dafbl_refusal(seen, at),
+        Code::Bilc => refusals::bilc_refusal(seen, at),
+        Code::Dilc => refusals::dilc_refusal(seen, at),
+        Code::Bslg => refusals::bslg_refusal(seen, at),
+        Code::BslgOff => refusals::bslg_off_refusal(seen, at),
+        Code::Bslb => refusals::bslb_refusal(x, at_owner(plan, arg)),
+        Code::BslbOff => refusals::bslb_off_refusal(x, at_owner(plan, arg)),
+        Code::Reminder => refusals::reminder_refusal(seen, at),
+        Code::ReminderOff => refusals::reminder_off_refusal(seen, at),
+        Code::ExitNormal => refusals::exit_normal_refusal(seen, at),
+        Code::ExitSpecial => refusals::exit_special_refusal(seen, at),
+        Code::ExitReleased => refusals::exit_released_refusal(seen, at),
+        Code::Entry => refusals::entry_refusal(seen, at),
+        Code::EntryReleased => refusals::entry_released_refusal(seen, at),
+        Code::Occupied => refusals::occupied_refusal(x, at_owner(plan, arg)),
+        Code::Freed => refusals::freed_refusal(x, at_owner(plan, arg)),
+        Code::LinkLost => refusals::link_lost_refusal(seen, at),
+        Code::LinkRestored => refusals::link_restored_refusal(seen, at),
+        Code::Second => refusals::second_refusal(seen, at),
     }
 }
 
 // (02, Req 05) What 2012 adds: AFBLI and AFBLE exclude BILC, BSLG and BSLB; BILC and BSLB are refused where own is annulled.
-pub fn added_in_2012(plan: Plan, x: Situation, event: Event) -> u8
-    ensures { result ≡ added_in_2012 plan (unpacked x) event }
+pub fn added_in_2012(plan: Plan, x: Situation, event: Event) -> Result<(), Refusal>
+    ensures { told result ≡ added_in_2012 plan (unpacked x) event }
 {
-    let code = event.code;
     let arg = event.argument;
     let section = section_of(arg);
-    match code {
-        3 => refusals::excluded_refusal(plan, x, station_named(arg)),
-        4 => refusals::excluded_refusal(plan, x, station_named(arg)),
-        6 => refusals::annulled_refusal(x, station_named(arg)),
-        10 => refusals::annulled_refusal(x, plan.owner(section as u16)),
-        _ => 0,
+    match Code::try_from(event.code) {
+        Ok(Code::Afbli) => refusals::excluded_refusal(plan, x, station_named(arg)),
+        Ok(Code::Afble) => refusals::excluded_refusal(plan, x, station_named(arg)),
+        Ok(Code::Bilc) => refusals::annulled_refusal(x, station_named(arg)),
+        Ok(Code::Bslb) => refusals::annulled_refusal(x, plan.owner(section as u16)),
+        _ => Ok(()),
     }
 }
 
 // The event's own refusal, of a code that is known and an argument that is right. What 2012 adds comes "after all checks in 01".
-pub fn own_refusal(plan: Plan, x: Situation, event: Event) -> u8
-    ensures { result ≡ own_refusal plan (unpacked x) event }
+pub fn own_refusal(plan: Plan, x: Situation, event: Event) -> Result<(), Refusal>
+    ensures { told result ≡ own_refusal plan (unpacked x) event }
 {
-    let r = refusal_in_2024(plan, x, event);
-    if r != 0 {
-        return r;
-    }
+    refusal_in_2024(plan, x, event)?;
     if plan.rules2012 {
         return added_in_2012(plan, x, event);
     }
-    0
+    Ok(())
 }
 
 // Where a section becoming occupied leads.
@@ -194,106 +155,84 @@ fn occupied_at(x: Situation, at: Spot) -> Situation
 pub fn next(plan: Plan, x: Situation, event: Event) -> Situation
     ensures { unpacked result ≡ reached plan (unpacked x) event }
 {
-    let code = event.code;
+    let Some(code) = Code::of(event.code) else {
+        return x;
+    };
     let arg = event.argument;
     let at = at_station(plan, arg);
     let own = at.own;
     let seen = x.seen_from(own);
     match code {
-        1 => seen.sobb(at).seen_from(own),
-        2 => seen.cobb(at).seen_from(own),
-        3 => seen.afbli(at).seen_from(own),
-        4 => seen.afble(at).seen_from(own),
-        5 => seen.dafbl(at).seen_from(own),
-        6 => seen.bilc(at).seen_from(own),
-        7 => seen.dilc(at).seen_from(own),
-        8 => seen.bslg(at).seen_from(own),
-        9 => seen.bslg_off(at).seen_from(own),
-        10 => x.bslb(at_owner(plan, arg)),
-        11 => x.bslb_off(at_owner(plan, arg)),
-        12 => seen.reminder(at).seen_from(own),
-        13 => seen.reminder_off(at).seen_from(own),
-        14 => seen.exit_normal(at).seen_from(own),
-        15 => seen.exit_special(at).seen_from(own),
-        16 => seen.exit_released(at).seen_from(own),
-        17 => seen.entry(at).seen_from(own),
-        18 => seen.entry_released(at).seen_from(own),
-        19 => occupied_at(x, at_owner(plan, arg)),
-        20 => x.freed(at_owner(plan, arg)),
-        21 => seen.link_lost(at).seen_from(own),
-        22 => seen.link_restored(at).seen_from(own),
-        23 => seen.second(at).seen_from(own),
-        _ => x,
+        Code::Sobb => seen.sobb(at).seen_from(own),
+        Code::Cobb => seen.cobb(at).seen_from(own),
+        Code::Afbli => seen.afbli(at).seen_from(own),
+        Code::Afble => seen.afble(at).seen_from(own),
+        Code::Dafbl => seen.dafbl(at).seen_from(own),
+        Code::Bilc => seen.bilc(at).seen_from(own),
+        Code::Dilc => seen.dilc(at).seen_from(own),
+        Code::Bslg => seen.bslg(at).seen_from(own),
+        Code::BslgOff => seen.bslg_off(at).seen_from(own),
+        Code::Bslb => x.bslb(at_owner(plan, arg)),
+        Code::BslbOff => x.bslb_off(at_owner(plan, arg)),
+        Code::Reminder => seen.reminder(at).seen_from(own),
+        Code::ReminderOff => seen.reminder_off(at).seen_from(own),
+        Code::ExitNormal => seen.exit_normal(at).seen_from(own),
+        Code::ExitSpecial => seen.exit_special(at).seen_from(own),
+        Code::ExitReleased => seen.exit_released(at).seen_from(own),
+        Code::Entry => seen.entry(at).seen_from(own),
+        Code::EntryReleased => seen.entry_released(at).seen_from(own),
+        Code::Occupied => occupied_at(x, at_owner(plan, arg)),
+        Code::Freed => x.freed(at_owner(plan, arg)),
+        Code::LinkLost => seen.link_lost(at).seen_from(own),
+        Code::LinkRestored => seen.link_restored(at).seen_from(own),
+        Code::Second => seen.second(at).seen_from(own),
     }
 }
 
-// What the refusal of an event names, asked after it. Of those that 9 refuses, SOBB and COBB check any exit route.
+// What the refusal of an event names, asked after it: a section by its number, a station by 0 A, 1 B. Of those that 9 refuses, SOBB and COBB
+// check any exit route.
 pub fn name_of(plan: Plan, x: Situation, event: Event, refusal: u8) -> u8
     ensures { result ≡ name plan (unpacked x) event refusal }
 {
-    if refusal == OCCUPIED {
+    if refusal == u8::from(Refusal::Occupied) {
         return lowest_occupied(plan, x);
     }
-    if refusal == EXIT_ROUTE {
-        let any = (event.code == 1) | (event.code == 2);
+    if refusal == u8::from(Refusal::ExitRoute) {
+        let any = (event.code == Code::Sobb as u8) | (event.code == Code::Cobb as u8);
         let own = station_named(event.argument);
-        return route_holder(x, any, own);
+        return route_holder(x, any, own) as u8;
     }
     0
 }
 
 // Refusals 3 unknown code, 4 argument, then the event's own, for a plan and a situation that are judged already.
-fn refusal(plan: Plan, x: Situation, event: Event) -> u8
-    ensures { result ≡ (stepped plan (unpacked x) event).refusal }
+fn refusal(plan: Plan, x: Situation, event: Event) -> Result<(), Refusal>
+    ensures { told result ≡ (stepped plan (unpacked x) event).refusal }
 {
-    if !known(event) {
-        return UNKNOWN_CODE;
-    }
-    if !argument_right(plan, event) {
-        return WRONG_ARGUMENT;
-    }
+    bytes_refusal(plan, event)?;
     own_refusal(plan, x, event)
 }
 
-// A refused event hands the situation back unchanged.
-fn refused(plan: Plan, x: Situation, event: Event, refusal: u8) -> Applied
-    ensures result_value { outcome result ≡ refused refusal (unpacked x) }
-    ensures name_value { result.name ≡ name plan (unpacked x) event result.refusal }
+// A refusal, with what it names.
+fn with_name(plan: Plan, x: Situation, event: Event, refusal: Refusal) -> Refused
+    ensures { result ≡ record { refusal = refusal; name = name plan (unpacked x) event (number refusal) } }
 {
-    let name = name_of(plan, x, event, refusal);
-    Applied {
-        refusal,
-        name,
-        next: x,
-    }
+    let name = name_of(plan, x, event, refusal.into());
+    Refused { refusal, name }
 }
 
-// A plan and a situation that are judged already.
-fn step(plan: Plan, x: Situation, event: Event) -> Applied
-    ensures result_value { outcome result ≡ stepped plan (unpacked x) event }
-    ensures name_value { result.name ≡ name plan (unpacked x) event result.refusal }
+// Refusals 1 plan, 2 situation not sound, 3 unknown code, 4 argument, then the event's own, with what it names. A refused event leaves the
+// situation as it is.
+pub fn apply(plan: Plan, x: Situation, event: Event) -> Result<Situation, Refused>
+    ensures result_value { outcome (unpacked x) result ≡ applied plan (unpacked x) event }
+    ensures name_value { named result ≡ name plan (unpacked x) event (outcome (unpacked x) result).refusal }
 {
-    let refusal = refusal(plan, x, event);
-    if refusal != 0 {
-        return refused(plan, x, event, refusal);
+    if let Err(refusal) = judged(plan, x) {
+        return Err(with_name(plan, x, event, refusal));
+    }
+    if let Err(refusal) = refusal(plan, x, event) {
+        return Err(with_name(plan, x, event, refusal));
     }
     let next = next(plan, x, event);
-    Applied {
-        refusal: 0,
-        name: 0,
-        next,
-    }
-}
-
-// Refusals 1 plan, 2 situation not sound, 3 unknown code, 4 argument, then the event's own, with what it names. A refused event hands the
-// situation back unchanged.
-pub fn apply(plan: Plan, x: Situation, event: Event) -> Applied
-    ensures result_value { outcome result ≡ applied plan (unpacked x) event }
-    ensures name_value { result.name ≡ name plan (unpacked x) event result.refusal }
-{
-    let refusal = judged(plan, x);
-    if refusal != 0 {
-        return refused(plan, x, event, refusal);
-    }
-    step(plan, x, event)
+    Ok(next)
 }

@@ -11,10 +11,9 @@ use Rattle.rulebook.specs.Names.{name}
 use Rattle.rulebook.specs.Laws as laws
 use Rattle.signals.specs.Readings.{value_read}
 use Rattle.numeric.specs.Exact.{exact_answer, is_number, exact_value}
-use Rattle.marking.specs.Sheet.{marked}
+use Rattle.marking.specs.Sheet.{marked, Marked}
 use Rattle.marking.specs.declared.Answer.{Answer}
 use Rattle.marking.specs.declared.Answer.TheVariants.{Seconds}
-use Rattle.marking.specs.declared.Marked.{Marked}
 use Rattle.std.specs.Float.{binary32}
 use Rattle.std.specs.Float.Ieee.{round}
 

@@ -11,8 +11,7 @@ use Rattle.rulebook.specs.Situation.{Kept}
 use Rattle.rulebook.specs.Apply.{event, own_refusal, reached}
 use Rattle.rulebook.specs.Names.{name}
 use Rattle.aspects.specs.Aspects.{aspect}
-use Rattle.signals.specs.Readings.{reading, nothing_told}
-use Rattle.signals.specs.declared.readings.Told.{Told}
+use Rattle.signals.specs.Readings.{Told, reading, nothing_told}
 use Rattle.records.specs.Plan.{plan}
 use Rattle.records.specs.Situation.{codes_of, situation}
 use Rattle.lists.specs.Refusal.{◌unless◌, ◌or_else◌, event_refusal}

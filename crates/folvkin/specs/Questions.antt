@@ -2,8 +2,7 @@
 use Rattle.std.specs.Prelude.{ℕ, ◌+◌, ◌*◌, List}
 use Rattle.words.specs.Words.{flag}
 use Rattle.paper.specs.Read.{read_of}
-use Rattle.keys.specs.Calls.{Fetch, fetched, ran}
-use Rattle.keys.specs.declared.Ran.{Ran}
+use Rattle.keys.specs.Calls.{Fetch, fetched, Ran, ran}
 
 -- `refusal + 2^8 more + 2^16 count`
 abbrev pub packed_part : Fetch → ℕ

@@ -1,5 +1,8 @@
 // Plans, situations, events, aspects and readings. A plan and a situation are the records of a question, exactly as they stand there.
-ghost use Rattle.std.specs.Prelude.{◌≡◌, true, ◌+◌, ◌≤◌, ◌++◌, length, drop};
+ghost use Rattle.std.specs.Prelude.{◌≡◌, true, ◌+◌, ◌≤◌, ◌++◌, length, drop, leb};
+ghost use Rattle.block.specs.Refusals.{told};
+ghost use Rattle.rulebook.specs.Judged.{judged};
+ghost use Rattle.lists.specs.Refusal.{◌unless◌, ◌or_else◌};
 ghost use Rattle.block.specs.Line.{is_plan};
 ghost use Rattle.rulebook.specs.Names.{name};
 ghost use Rattle.situation.specs.Packed.{unpacked};
@@ -9,58 +12,51 @@ ghost use Rattle.folvkin.specs.Block.{tried_refusal, record_after, told_with, ro
 
 use block::event::Event;
 use block::line::{Direction, Plan, plan_judged};
-use block::refused::{ACCEPTED, NO_FORM, SHORT_ROOM};
+use block::refused::{Refusal, told};
 use events::{name_of, next, own_refusal};
 use lists::event_refusal;
 use paper::given::both_given;
 use records::lists::EVENT;
-use records::plan::{plan_in, take_plan};
+use records::plan::{is_plan, plan_in};
 use sections::one_down;
-use signals::lights::{Lights, all_lights, shown};
+use signals::lights::{Lights, all_lights};
 use signals::readings::reading;
 use situation::Situation;
-use situations::{put_situation, situation_in};
+use situations::put_situation;
 use soundness::judged;
 
 // No situation is ever longer.
 const LONGEST_SITUATION: usize = 96;
 
+// What is told where bytes are not of the form.
+const NO_FORM: u8 = Refusal::NoForm as u8;
+
 pub fn folvkin_plan(plan: &[u8]) -> u8
     ensures { result ≡ plan_refusal plan.now }
 {
-    let used = take_plan(plan);
-    if used == 0 {
+    if !is_plan(plan) {
         return NO_FORM;
     }
-    if used < plan.len() {
-        return NO_FORM;
-    }
-    plan_judged(plan_in(plan))
+    told(plan_judged(plan_in(plan)))
 }
 
 pub fn folvkin_situation(plan: &[u8], situation: &[u8]) -> u8
     ensures { result ≡ situation_refusal plan.now situation.now }
 {
-    if !both_given(plan, situation) {
+    let Some((plan, x)) = both_given(plan, situation) else {
         return NO_FORM;
-    }
-    judged(plan_in(plan), situation_in(situation))
+    };
+    told(judged(plan, x))
 }
 
 // Refusals 1, 2, 3, 4, 24, then the event's own.
-fn tried_refusal(plan: Plan, x: Situation, event: Event, room: usize) -> u8
-    ensures { result ≡ tried_refusal plan (unpacked x) event room }
+fn tried_refusal(plan: Plan, x: Situation, event: Event, room: usize) -> Result<(), Refusal>
+    ensures { told result ≡ tried_refusal plan (unpacked x) event room }
 {
-    let refusal = judged(plan, x);
-    if refusal != ACCEPTED {
-        return refusal;
-    }
-    let refusal = event_refusal(plan, event);
-    if refusal != ACCEPTED {
-        return refusal;
-    }
+    judged(plan, x)?;
+    event_refusal(plan, event)?;
     if room < LONGEST_SITUATION {
-        return SHORT_ROOM;
+        return Err(Refusal::ShortRoom);
     }
     own_refusal(plan, x, event)
 }
@@ -70,10 +66,10 @@ fn event_written(plan: Plan, x: Situation, event: Event, room: &mut [u8]) -> u64
     ensures value { result ≡ told_with (tried_refusal plan (unpacked x) event (length room.old)) (name plan (unpacked x) event (tried_refusal plan (unpacked x) event (length room.old))) (record_after plan (unpacked x) event) }
     ensures room_after { room.new ≡ room_with (tried_refusal plan (unpacked x) event (length room.old)) (record_after plan (unpacked x) event) room.old }
 {
-    let refusal = tried_refusal(plan, x, event, room.len());
-    if refusal != ACCEPTED {
-        let name = name_of(plan, x, event, refusal);
-        return refusal as u64 + 256 * (name as u64);
+    if let Err(refusal) = tried_refusal(plan, x, event, room.len()) {
+        let number = u8::from(refusal);
+        let name = name_of(plan, x, event, number);
+        return u64::from(number) + 256 * u64::from(name);
     }
     let length = put_situation(next(plan, x, event), room);
     65536 * (length as u64)
@@ -85,37 +81,33 @@ pub fn folvkin_event(plan: &[u8], situation: &[u8], event: &[u8], room: &mut [u8
     ensures value { result ≡ event_packed (given plan.now situation.now) event.now room.old }
     ensures room_after { room.new ≡ event_room (given plan.now situation.now) event.now room.old }
 {
-    if !both_given(plan, situation) {
-        return NO_FORM as u64;
-    }
+    let Some((plan, x)) = both_given(plan, situation) else {
+        return u64::from(NO_FORM);
+    };
     if event.len() != EVENT {
-        return NO_FORM as u64;
+        return u64::from(NO_FORM);
     }
     let event = Event {
         code: event[0],
         argument: event[1],
     };
-    let plan = plan_in(plan);
-    event_written(plan, situation_in(situation), event, room)
+    event_written(plan, x, event, room)
 }
 
 // Refusal + 2^8 value. A reading is kind and argument.
 pub fn folvkin_reading(plan: &[u8], situation: &[u8], kind_and_argument: &[u8]) -> u32
     ensures { result ≡ packed (reading_told (given plan.now situation.now) kind_and_argument.now) }
 {
-    if !both_given(plan, situation) {
-        return NO_FORM as u32;
-    }
+    let Some((plan, x)) = both_given(plan, situation) else {
+        return u32::from(NO_FORM);
+    };
     if kind_and_argument.len() != 2 {
-        return NO_FORM as u32;
+        return u32::from(NO_FORM);
     }
-    let told = reading(
-        plan_in(plan),
-        situation_in(situation),
-        kind_and_argument[0],
-        kind_and_argument[1],
-    );
-    told.refusal as u32 + 256 * (told.value as u32)
+    match reading(plan, x, kind_and_argument[0], kind_and_argument[1]) {
+        Ok(value) => 256 * u32::from(value),
+        Err(refusal) => u32::from(u8::from(refusal)),
+    }
 }
 
 // The aspects of the signals of a direction over the sections 1..n, each as section 0 of sets that move down. Later bytes keep their
@@ -124,15 +116,13 @@ fn show_direction(lights: Lights, n: u8, room: &mut [u8])
     requires { n ≤ length room.old }
     ensures { room.new ≡ first_shown lights n ++ drop n room.old }
 {
-    let end = n as usize;
-    let mut open = lights.open;
-    let mut green = lights.green;
-    let mut i: usize = 0;
-    while i < end {
-        open = one_down(open);
-        green = one_down(green);
-        room[i] = shown(Lights { open, green }, 0);
-        i += 1;
+    let mut rest = lights;
+    for i in 0..usize::from(n) {
+        rest = Lights {
+            open: one_down(rest.open),
+            green: one_down(rest.green),
+        };
+        room[i] = rest.shown(0).into();
     }
 }
 
@@ -145,8 +135,22 @@ fn show(plan: Plan, x: Situation, room: &mut [u8])
     let to_b = all_lights(plan, x, Direction::TowardsB);
     let to_a = all_lights(plan, x, Direction::TowardsA);
     show_direction(to_b, n, room);
-    let at = n as usize;
+    let at = usize::from(n);
     show_direction(to_a, n, &mut room[at..]);
+}
+
+// Refusals 1, 2, 24; a refusal changes no byte.
+fn aspects_shown(plan: Plan, x: Situation, room: &mut [u8]) -> Result<(), Refusal>
+    ensures value { told result ≡ (judged plan (unpacked x) or_else 24 unless leb (plan.sections + plan.sections) (length room.old)) }
+    ensures room_after { room.new ≡ room_with (told result) (first_aspects plan (unpacked x) (plan.sections + plan.sections)) room.old }
+{
+    judged(plan, x)?;
+    let n = usize::from(plan.sections);
+    if room.len() < n + n {
+        return Err(Refusal::ShortRoom);
+    }
+    show(plan, x, room);
+    Ok(())
 }
 
 // Writes 2n bytes: the aspects of 1..n, then of 129..128+n. A room too short is refused with 24; later bytes keep their values.
@@ -154,19 +158,8 @@ pub fn folvkin_aspects(plan: &[u8], situation: &[u8], room: &mut [u8]) -> u8
     ensures value { result ≡ aspects_told (given plan.now situation.now) room.old }
     ensures room_after { room.new ≡ aspects_room (given plan.now situation.now) room.old }
 {
-    if !both_given(plan, situation) {
+    let Some((plan, x)) = both_given(plan, situation) else {
         return NO_FORM;
-    }
-    let plan = plan_in(plan);
-    let x = situation_in(situation);
-    let refusal = judged(plan, x);
-    if refusal != ACCEPTED {
-        return refusal;
-    }
-    let n = plan.sections as usize;
-    if room.len() < n + n {
-        return SHORT_ROOM;
-    }
-    show(plan, x, room);
-    ACCEPTED
+    };
+    told(aspects_shown(plan, x, room))
 }

@@ -7,6 +7,7 @@ use std::io::{Read, Result};
 
 // Reads until the room is full or the input has ended; returns how many bytes it read. The one error is the reader's own; the room then has
 // what was read before it.
+// A loop of its own: std's `read_exact` takes an input that ends early for an error, and `read_to_end` needs a heap.
 pub fn read_full<R: Read>(reader: &mut R, room: &mut [u8]) -> Result<usize>
     ensures within { IfOk result (λ n. n ≤ length room.new) }
     ensures kept { length room.new ≡ length room.old }

@@ -26,13 +26,13 @@ fn print_text(rt: HostRuntime, question: &[u8], room: &mut [u8]) -> Result<u64>
     ensures told { IfOk result (λ n. n ≡ length (printed question.now)) }
     ensures kept { length room.new ≡ length room.old }
 {
-    let mut progress = start();
+    let mut progress = Some(start());
     let mut printed: u64 = 0;
-    while !progress.ended {
+    // `while`, not `for`: how many pieces a text has is known once it has ended.
+    while progress.is_some() {
         let piece = next_piece(question, progress, room);
-        let n = piece.length;
-        rt.stdout().write_all(&room[..n])?;
-        printed += n as u64;
+        rt.stdout().write_all(&room[..piece.length])?;
+        printed += piece.length as u64;
         progress = piece.next;
     }
     Ok(printed)

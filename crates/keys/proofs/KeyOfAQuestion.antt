@@ -26,8 +26,7 @@ use Rattle.rules.specs.RulesOf.{name_told}
 use Rattle.rules.proofs.RunNames.{unstopped}
 use Rattle.paper.specs.Question.{Question}
 use Rattle.keys.specs.Key.{Bounded, rules, key_of}
-use Rattle.keys.specs.Calls.{given, part_of, told, not_run, slot_run}
-use Rattle.keys.specs.declared.Ran.{Ran}
+use Rattle.keys.specs.Calls.{Ran, given, part_of, told, not_run, slot_run}
 
 module _ (q : Question) where
   -- a sequence is in the key exactly if it is an answer: up to the length, of permitted events, each accepted in its turn, every reading holds at the end

@@ -1,5 +1,5 @@
 -- The two calls: a part of a question's key, and a candidate's slot run.
-use Rattle.std.specs.Prelude.{ℕ, false, List, length, eqb, leb, if◌then◌else◌}
+use Rattle.std.specs.Prelude.{ℕ, Bool, false, List, length, eqb, leb, if◌then◌else◌}
 use Rattle.keylaws.specs.Slots.{word_of, is_slot}
 use Rattle.keylaws.specs.Continuation.{is_continuation}
 use Rattle.keylaws.specs.Parts.{Part, handed, part_after}
@@ -8,23 +8,15 @@ use Rattle.rules.specs.RulesOf.{name_told}
 use Rattle.paper.specs.Question.{Question}
 use Rattle.paper.specs.Read.{Read}
 use Rattle.keys.specs.Key.{rules}
-use Rattle.keys.specs.declared.Fetched.{Fetched}
-use Rattle.keys.specs.declared.Ran.{Ran}
 
 -- ---- a part of the key: the refusal, and what the call leaves in the room and tells
 pub record Fetch : Type 0 where
   pub refusal : ℕ
   pub part : Part
 
-abbrev pub left_by : Fetched → List ℕ → Fetch
-left_by r room = record { refusal = r.refusal; part = handed room r.count r.more }
-
 -- "Every refusal returns its number and zeros; .. lent memory keeps its values."
-abbrev pub none : ℕ → Fetched
-none refusal = record { refusal = refusal; more = false; count = 0 }
-
 abbrev pub nothing : ℕ → List ℕ → Fetch
-nothing refusal room = left_by (none refusal) room
+nothing refusal room = record { refusal = refusal; part = handed room 0 false }
 
 abbrev pub given : Part → Fetch
 given part = record { refusal = 0; part = part }
@@ -41,6 +33,15 @@ abbrev pub fetched : Read → List ℕ → List ℕ → Fetch
 fetched read after room = if eqb read.refusal 0 then part_of read.question after room else nothing read.refusal room
 
 -- ---- a candidate's slot
+-- the refusal of the question or of the slot; else the place within the slot and the refusal of the first refused event, with what that names, or zeros and
+-- whether all readings hold
+pub record Ran : Type 0 where
+  pub refusal : ℕ
+  pub place : ℕ
+  pub event_refusal : ℕ
+  pub name : ℕ
+  pub holds : Bool
+
 abbrev pub not_run : ℕ → Ran
 not_run refusal = record { refusal = refusal; place = 0; event_refusal = 0; name = 0; holds = false }
 

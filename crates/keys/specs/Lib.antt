@@ -1,2 +1,3 @@
 pub mod Key
 pub mod Calls
+pub mod Told

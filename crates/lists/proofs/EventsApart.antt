@@ -1,12 +1,12 @@
 -- Each event has a bit, in one of four words. Where no two events of a list share one, none is listed twice. Assumes nothing.
-use Prim.Native.Nat.{ℕ, ◌+◌, ◌*◌, ◌/◌, ◌%◌, ◌≤◌, ◌<◌}
+use Prim.Native.Nat.{ℕ, ◌+◌, ◌*◌, ◌/◌, ◌%◌, ◌<◌}
 use mathlib.Core.Path.{◌≡◌, refl, sym, ap, ◌∙◌}
 use mathlib.Core.Bool.{Bool, true, false, not}
 use mathlib.Core.List.{List, [], ◌∷◌}
 use native.Mathlib.Nat.{mod-lt}
 use native.Mathlib.Omega.{arith}
 use borrow.Author.Tests.{eqb-true, eqb-false, not-true}
-use lib.ListN.{length, drop, get_or, set, length-set}
+use lib.ListN.{length, get_or, set, length-set}
 use lib.Seq.{get_or-set_same, get_or-set_other}
 use lib.Dec.{eqb}
 use Rattle.words.specs.Words.{◌and◌}
@@ -15,8 +15,6 @@ use Rattle.sections.proofs.SetLaws.{has_with_same, has_with_other}
 use Rattle.rulebook.specs.Apply.{event}
 use Rattle.block.specs.declared.event.Event.{Event}
 use Rattle.forms.proofs.Reading.{both, never}
-use Rattle.records.specs.InBytes.{events_in}
-use Rattle.records.proofs.InBytes.{events_step, events_end}
 use Rattle.lists.specs.Refusal.{listed, listed_twice}
 
 abbrev pub word : Event → ℕ
@@ -43,17 +41,17 @@ unfoldable pub all_fresh : List ℕ → List Event → Bool
 all_fresh seen [] = true
 all_fresh seen (e ∷ rest) = not (has_bit seen e) and all_fresh (added seen e) rest
 
--- ---- one turn of the walk, and its end: w and k are the event's word and bit
-pub one_added : (seen t : List ℕ) (w k : ℕ) → w ≡ word (event (get_or t 0 0) (get_or t 1 0)) → k ≡ bit (event (get_or t 0 0) (get_or t 1 0)) → 2 ≤ length t → (k belongs_to get_or seen w 0) ≡ false
-    → all_fresh (set seen w (get_or seen w 0 with_section k)) (events_in (drop 2 t)) ≡ all_fresh seen (events_in t)
+-- ---- one turn of the walk: w and k are the word and the bit of the event
+pub one_added : (seen : List ℕ) (e : Event) (rest : List Event) (w k : ℕ) → w ≡ word e → k ≡ bit e → (k belongs_to get_or seen w 0) ≡ false
+    → all_fresh (set seen w (get_or seen w 0 with_section k)) rest ≡ all_fresh seen (e ∷ rest)
 unfolding all_fresh added has_bit
-one_added seen t w k e f h off =
-    let fresh : has_bit seen (event (get_or t 0 0) (get_or t 1 0)) ≡ false = rw (← e, ← f) off in
-    rw (e, f) (sym (ap (all_fresh seen) (events_step t h) ∙ rw fresh))
+one_added seen e rest w k d f off =
+    let fresh : has_bit seen e ≡ false = rw (← d, ← f) off in
+    rw (d, f) (sym (rw fresh))
 
-pub fresh_end : (seen t : List ℕ) → length t < 2 → all_fresh seen (events_in t) ≡ true
+pub none_left : (seen : List ℕ) → all_fresh seen [] ≡ true
 unfolding all_fresh
-fresh_end seen t h = ap (all_fresh seen) (events_end t h)
+none_left seen = refl
 
 -- ---- a bit, once there, stays
 module _ (seen : List ℕ) (long : length seen ≡ 4) where

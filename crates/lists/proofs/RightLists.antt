@@ -1,4 +1,5 @@
 -- What a caller may count on of lists of which no check fails. Assumes nothing.
+use Rattle.std.specs.Prelude.{Ok, Err, if◌then◌else◌}
 use Prim.Native.Nat.{ℕ, zero, suc, ◌≤◌, ◌<◌}
 use mathlib.Core.Path.{◌≡◌, refl, sym, ap, ◌∙◌}
 use mathlib.Core.Bool.{Bool, true, false, not}
@@ -9,6 +10,8 @@ use lib.ListN.{length, get_or}
 use lib.Dec.{T, leb}
 use Rattle.words.specs.Words.{◌and◌}
 use Rattle.words.proofs.Tests.{is_holds}
+use Rattle.block.specs.Refusals.{number, told}
+use Rattle.block.specs.declared.refused.Refusal.{Refusal}
 use Rattle.block.specs.declared.line.Plan.{Plan}
 use Rattle.block.specs.declared.event.Event.{Event}
 use Rattle.block.specs.declared.reading.Reading.{Reading}
@@ -32,6 +35,29 @@ first_refusal {r} later e z = ap (λ (b : ℕ). b or_else later) (sym e) ∙ rw 
 
 pub next_refusal : {r a : ℕ} (later : ℕ) → r ≡ a → r ≡ 0 → a or_else later ≡ later
 next_refusal later e z = ap (λ (b : ℕ). b or_else later) (sym e ∙ z)
+
+pub unless_is : (r : Refusal) (right : Bool) → told {A = Unit {0}} (if not right then Err r else Ok tt) ≡ number r unless right
+unless_is r true = refl
+unless_is r false = refl
+
+module _ (p : Plan) (events : List Event) (readings : List Reading) (longest : ℕ) {r : ℕ} (told : r ≡ events_refusal p events) where
+  pub refused_for_events : (r ≡ 0 → ⊥) → lists_refusal p events readings longest ≡ r
+  unfolding lists_refusal
+  refused_for_events z = first_refusal _ told z
+
+  pub refused_later : r ≡ 0 → lists_refusal p events readings longest ≡ 21 unless (leb longest 5 and not (listed_twice events) and readings_in_range p readings)
+  unfolding lists_refusal
+  refused_later z = next_refusal _ told z
+
+-- the two checks of an event in order, written otherwise
+pub by_both : (p : Plan) (e : Event) → (if not (known e) then 3 else if not (argument_right p e) then 4 else 0) ≡ event_refusal p e
+unfolding event_refusal
+by_both p e = by (known e) (argument_right p e)
+  where
+    by : (k a : Bool) → (if not k then 3 else if not a then 4 else 0) ≡ 3 unless k or_else 4 unless a
+    by false a = refl
+    by true false = refl
+    by true true = refl
 
 -- ---- item by item: d is what would be read past the end
 pub event_right : (p : Plan) (e : Event) → event_refusal p e ≡ 0 → (known e ≡ true) × (argument_right p e ≡ true)

@@ -9,11 +9,9 @@ use lib.Dec.{T, leb}
 use lib.IntN.{ℤ, pos, nat_abs}
 use lib.Ieee.{Float, nan, inf, fin}
 use lib.Ieee.Fits.{down_pos}
-use Rattle.numeric.specs.Exact.{Value, in_range, exact_answer, exact_value, distance, below, signed, signed_error}
-use Rattle.marking.specs.Sheet.{given_of, marked}
+use Rattle.numeric.specs.Exact.{Fraction, Value, in_range, exact_answer, exact_value, distance, below, signed, signed_error}
+use Rattle.marking.specs.Sheet.{given_of, marked, Marked}
 use Rattle.marking.specs.declared.Answer.{Answer}
-use Rattle.marking.specs.declared.Marked.{Marked}
-use Rattle.numeric.specs.declared.exact.Fraction.{Fraction}
 use Rattle.numeric.proofs.Ranges.{low}
 use Rattle.marking.proofs.Lines.{marked_line}
 

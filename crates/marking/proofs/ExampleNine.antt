@@ -5,9 +5,8 @@ use mathlib.Core.Bool.{false}
 use lib.IntN.{ℤ, pos, negsuc}
 use lib.Ieee.{Float, fin, binary32, round, of_bits}
 use Rattle.numeric.specs.Exact.{exact_answer, exact_value}
-use Rattle.marking.specs.Sheet.{marked}
+use Rattle.marking.specs.Sheet.{marked, Marked}
 use Rattle.marking.specs.declared.Answer.TheVariants.{Seconds}
-use Rattle.marking.specs.declared.Marked.{Marked}
 
 abbrev pub fifty_four : Float
 fifty_four = fin false 27 (pos 1)

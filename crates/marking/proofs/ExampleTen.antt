@@ -9,13 +9,11 @@ use lib.Dec.{T, leb→le}
 use lib.IntN.{ℤ, pos, negsuc}
 use lib.Ieee.{Float, nan, inf, fin, up, down}
 use lib.Ieee.Fits.{down_pos}
-use Rattle.numeric.specs.Exact.{Value, ◌÷◌, apart, distance, right, exact_value}
+use Rattle.numeric.specs.Exact.{Fraction, Value, ◌÷◌, apart, distance, right, exact_value}
 use Rattle.numeric.specs.Number.{number_verdict}
-use Rattle.marking.specs.Sheet.{verdict_of, marked}
+use Rattle.marking.specs.Sheet.{verdict_of, marked, Marked}
 use Rattle.marking.specs.declared.Answer.{Answer}
 use Rattle.marking.specs.declared.Answer.TheVariants.{Blank, Seconds, Metres}
-use Rattle.marking.specs.declared.Marked.{Marked}
-use Rattle.numeric.specs.declared.exact.Fraction.{Fraction}
 use Rattle.marking.proofs.Lines.{marked_line}
 use Rattle.marking.proofs.Units.{by_unit, asked_verdict}
 

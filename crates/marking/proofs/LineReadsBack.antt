@@ -12,13 +12,11 @@ use lib.IntN.{ℤ, pos, negsuc, nat_abs}
 use lib.Ieee.{binary32, of_bits, to_bits, fits}
 use lib.Ieee.Bits.{to_bits-lt}
 use borrow.Author.Tests.{lt-ltb, le-ltb}
-use Rattle.numeric.specs.Exact.{Value, in_range, exact_answer, exact_value, distance, below, signed_error}
-use Rattle.marking.specs.Sheet.{given_of, verdict_of, sheet_line, refused, marked}
+use Rattle.numeric.specs.Exact.{Fraction, Value, in_range, exact_answer, exact_value, distance, below, signed_error}
+use Rattle.marking.specs.Sheet.{given_of, verdict_of, sheet_line, refused, marked, Marked}
 use Rattle.marking.specs.Typed.{answer_of, pattern_of, word, twos, line_bytes, typed_refusal, typed_line, room_after, word_at, signed_word, model_read, verdict_read, error_read}
 use Rattle.marking.specs.declared.Answer.{Answer}
-use Rattle.numeric.specs.declared.Line.{Line}
-use Rattle.marking.specs.declared.Marked.{Marked}
-use Rattle.numeric.specs.declared.exact.Fraction.{Fraction}
+use Rattle.numeric.specs.Number.{Line}
 use Rattle.marking.proofs.Lines.{with_line, marked_by}
 use Rattle.marking.proofs.ErrorIsTheCut.{size_is}
 use Rattle.marking.proofs.TypedCall.{room_by}

@@ -5,10 +5,9 @@ use Prim.Native.Nat.{ℕ}
 use mathlib.Core.Bool.{Bool, true, false}
 use lib.Dec.{T}
 use Rattle.numeric.specs.Exact.{in_range, exact_answer}
-use Rattle.marking.specs.Sheet.{sheet_line, refused, marked}
+use Rattle.marking.specs.Sheet.{sheet_line, refused, marked, Marked}
 use Rattle.marking.specs.declared.Answer.{Answer}
-use Rattle.numeric.specs.declared.Line.{Line}
-use Rattle.marking.specs.declared.Marked.{Marked}
+use Rattle.numeric.specs.Number.{Line}
 
 -- an answer of marking: the refusal, and the line beside it
 abbrev pub with_line : ℕ → Line → Marked

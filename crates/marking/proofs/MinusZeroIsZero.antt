@@ -9,13 +9,11 @@ use lib.Dec.{T, leb, eqb}
 use lib.IntN.{ℤ, pos}
 use lib.Ieee.{Float, fin, binary32, of_bits}
 use borrow.Author.Tests.{lt-ltb}
-use Rattle.numeric.specs.Exact.{in_range, exact_answer, exact_value, distance, below, right, signed, signed_error}
-use Rattle.marking.specs.Sheet.{unit_asked, sheet_line, marked}
+use Rattle.numeric.specs.Exact.{Fraction, in_range, exact_answer, exact_value, distance, below, right, signed, signed_error}
+use Rattle.marking.specs.Sheet.{unit_asked, sheet_line, marked, Marked}
 use Rattle.marking.specs.Typed.{answer_of, typed_line}
 use Rattle.marking.specs.declared.Answer.TheVariants.{Blank, Seconds, Metres}
-use Rattle.numeric.specs.declared.exact.Fraction.{Fraction}
-use Rattle.numeric.specs.declared.Line.{Line}
-use Rattle.marking.specs.declared.Marked.{Marked}
+use Rattle.numeric.specs.Number.{Line}
 use Rattle.numeric.proofs.Ranges.{low}
 use Rattle.marking.proofs.Lines.{with_line, marked_line}
 

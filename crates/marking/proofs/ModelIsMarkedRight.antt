@@ -10,13 +10,11 @@ use lib.Pow.{pow_pos}
 use lib.Ieee.{Float, binary32}
 use lib.Ieee.Scale.{grid}
 use borrow.Author.Tests.{le-leb}
-use Rattle.numeric.specs.Exact.{apart, in_range, exact_answer, exact_value, right}
+use Rattle.numeric.specs.Exact.{Fraction, apart, in_range, exact_answer, exact_value, right}
 use Rattle.numeric.specs.Nearest.{model_value}
 use Rattle.numeric.specs.Number.{number_verdict}
-use Rattle.marking.specs.Sheet.{unit_of, given_of, unit_asked, marked}
+use Rattle.marking.specs.Sheet.{unit_of, given_of, unit_asked, marked, Marked}
 use Rattle.marking.specs.declared.Answer.{Answer}
-use Rattle.marking.specs.declared.Marked.{Marked}
-use Rattle.numeric.specs.declared.exact.Fraction.{Fraction}
 use Rattle.numeric.proofs.Ranges.{Low, low, under_24}
 use Rattle.marking.proofs.Lines.{marked_line}
 use Rattle.numeric.proofs.Rounding.{error_32, value}

@@ -6,9 +6,8 @@ use native.Mathlib.Omega.{arith}
 use lib.Dec.{T}
 use Rattle.numeric.specs.Exact.{in_range, exact_answer}
 use Rattle.numeric.specs.Nearest.{Nearest}
-use Rattle.marking.specs.Sheet.{marked}
+use Rattle.marking.specs.Sheet.{marked, Marked}
 use Rattle.marking.specs.declared.Answer.{Answer}
-use Rattle.marking.specs.declared.Marked.{Marked}
 use Rattle.numeric.proofs.Ranges.{low, under_24}
 use Rattle.marking.proofs.Lines.{marked_line}
 use Rattle.numeric.proofs.Rounding.{is_nearest}

@@ -10,9 +10,8 @@ use lib.Ieee.Bits.{of_bits-to_bits}
 use lib.Ieee.Fits.{round-fits}
 use Rattle.numeric.specs.Exact.{exact_answer}
 use Rattle.numeric.specs.Nearest.{model_value}
-use Rattle.marking.specs.Sheet.{unit_of, given_of, unit_asked}
+use Rattle.marking.specs.Sheet.{unit_of, given_of, unit_asked, Marked}
 use Rattle.marking.specs.Typed.{answer_of, typed_refusal, typed_line, room_after, model_read, verdict_read}
-use Rattle.marking.specs.declared.Marked.{Marked}
 use Rattle.marking.proofs.Lines.{marked_line}
 use Rattle.marking.proofs.TypedCall.{accepted_is}
 use Rattle.marking.proofs.LineReadsBack.{room_reads_back, model_reads_back}

@@ -10,10 +10,9 @@ use lib.Dec.{T, leb}
 use lib.ListN.{length}
 use borrow.Author.Tests.{le-ltb, ne_eqb}
 use Rattle.numeric.specs.Exact.{in_range}
-use Rattle.marking.specs.Sheet.{refused, marked}
+use Rattle.marking.specs.Sheet.{refused, marked, Marked}
 use Rattle.marking.specs.Typed.{typed_refusal, room_after}
 use Rattle.marking.specs.declared.Answer.{Answer}
-use Rattle.marking.specs.declared.Marked.{Marked}
 use Rattle.marking.proofs.Lines.{marked_by}
 use Rattle.marking.proofs.TypedCall.{room_by}
 

@@ -5,9 +5,8 @@ use Prim.Native.Nat.{ℕ}
 use mathlib.Core.Bool.{Bool, false, not}
 use lib.Dec.{T, eqb}
 use Rattle.numeric.specs.Exact.{in_range, exact_answer, is_number, exact_value, right}
-use Rattle.marking.specs.Sheet.{unit_of, given_of, unit_asked, marked}
+use Rattle.marking.specs.Sheet.{unit_of, given_of, unit_asked, marked, Marked}
 use Rattle.marking.specs.declared.Answer.{Answer}
-use Rattle.marking.specs.declared.Marked.{Marked}
 use Rattle.marking.proofs.Lines.{marked_line}
 use Rattle.marking.proofs.Units.{by_unit, asked_verdict}
 

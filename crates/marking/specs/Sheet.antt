@@ -1,13 +1,10 @@
 -- Answers, verdicts and the sheet line. Definitions only.
 use Rattle.std.specs.Prelude.{ℕ, false, not, eqb, pos, Float, if◌then◌else◌}
 use Rattle.std.specs.Float.{fin}
-use Rattle.numeric.specs.Exact.{in_range, exact_answer}
-use Rattle.numeric.specs.Number.{number_verdict, line_at}
+use Rattle.numeric.specs.Exact.{Fraction, in_range, exact_answer}
+use Rattle.numeric.specs.Number.{Line, number_verdict, line_at}
 use Rattle.marking.specs.declared.Answer.{Answer}
 use Rattle.marking.specs.declared.Answer.TheVariants.{Blank, Seconds, Metres}
-use Rattle.numeric.specs.declared.Line.{Line}
-use Rattle.marking.specs.declared.Marked.{Marked}
-use Rattle.numeric.specs.declared.exact.Fraction.{Fraction}
 
 -- "An answer is blank, seconds with a float, or metres with a float (unit byte 0, 1, 2)."
 abbrev pub unit_of : Answer → ℕ
@@ -37,6 +34,11 @@ verdict_of kind t tolerance a =
 
 abbrev pub sheet_line : ℕ → Fraction → ℕ → Answer → Line
 sheet_line kind t tolerance a = line_at (verdict_of kind t tolerance a) t (given_of a)
+
+-- what marking returns: a refusal and zeros, or 0 and the line
+pub record Marked : Type 0 where
+  pub refusal : ℕ
+  pub line : Line
 
 -- "Every refusal returns its number and zeros"
 abbrev pub refused : ℕ → Marked

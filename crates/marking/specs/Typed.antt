@@ -6,7 +6,7 @@ use Rattle.numeric.specs.Exact.{in_range}
 use Rattle.marking.specs.Sheet.{marked}
 use Rattle.marking.specs.declared.Answer.{Answer}
 use Rattle.marking.specs.declared.Answer.TheVariants.{Blank, Seconds, Metres}
-use Rattle.numeric.specs.declared.Line.{Line}
+use Rattle.numeric.specs.Number.{Line}
 
 -- "blank, seconds with a float, or metres with a float (unit byte 0, 1, 2)"
 abbrev pub answer_of : ℕ → Float → Answer

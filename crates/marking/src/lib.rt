@@ -1,69 +1,64 @@
 // Numbers typed by candidates, marked exactly.
 #![tactic(auto)]
 
-mod codes;
 mod sheet;
-mod typed;
+pub mod typed;
 
 ghost use Rattle.std.specs.Prelude.{◌≡◌};
 ghost use Rattle.marking.specs.Sheet.{marked};
+ghost use Rattle.marking.specs.Told.{number_of, marked_as, refusal_of};
 ghost use Rattle.marking.specs.Typed.{typed_refusal, room_after};
 
-use codes::{ACCEPTED, OUT_OF_RANGE};
+use copying::copy;
 use numeric::Line;
-use numeric::exact::in_range;
-use sheet::{accepted_line, empty_line};
-use typed::{typed_refusal, write_line};
+use numeric::question::Numbers;
+use sheet::sheet_line;
+use typed::{LINE, Typed, line_bytes};
 
 // An answer is blank, seconds with a float, or metres with a float.
-#[derive(Clone, Copy)]
+#[derive(Clone, Copy, Debug, PartialEq)]
 pub enum Answer {
     Blank,
     Seconds(f32),
     Metres(f32),
 }
 
-// What marking returns: a refusal and zeros, or 0 and the line.
-#[derive(Clone, Copy)]
-pub struct Marked {
-    pub refusal: u8,
-    pub line: Line,
+// Why an answer is not marked, by the document's numbers.
+#[derive(Clone, Copy, Debug, PartialEq, Eq)]
+pub enum Refusal {
+    OutOfRange = 23,
+    ShortRoom = 24,
 }
 
-// Marks an answer.
-pub fn mark(kind: u8, amount: u32, speed: u32, tolerance: u32, answer: Answer) -> Marked
-    ensures { result ≡ marked kind amount speed tolerance answer }
-{
-    if !in_range(kind, amount, speed, tolerance) {
-        let line = empty_line();
-        return Marked {
-            refusal: OUT_OF_RANGE,
-            line,
-        };
-    }
-    let line = accepted_line(kind, amount, speed, tolerance, answer);
-    Marked {
-        refusal: ACCEPTED,
-        line,
+impl From<Refusal> for u8 {
+    ghost from_gives = { λ r n. n ≡ number_of r };
+
+    fn from(refusal: Refusal) -> u8 {
+        refusal as u8
     }
 }
 
-// Marks an answer given as its unit byte and the typed pattern, and writes the line's bytes into the lent room.
-pub fn mark_typed(
-    kind: u8,
-    amount: u32,
-    speed: u32,
-    tolerance: u32,
-    unit: u8,
-    pattern: u32,
-    room: &mut [u8],
-) -> u8
-    ensures { (result ≡ typed_refusal kind amount speed tolerance unit room.old)
-        × (room.new ≡ room_after kind amount speed tolerance unit pattern room.old) }
+// Marks an answer to the question that has these numbers.
+#[tactic(auto, unfolding(crate::specs::Sheet::marked))]
+pub fn mark(numbers: Numbers, answer: Answer) -> Result<Line, Refusal>
+    ensures { marked_as result ≡ marked numbers.kind numbers.amount numbers.speed numbers.tolerance answer }
 {
-    let refusal = typed_refusal(kind, amount, speed, tolerance, unit, room);
-    if refusal == ACCEPTED {
-        write_line(kind, amount, speed, tolerance, unit, pattern, room);
+    let question = numbers.question().ok_or(Refusal::OutOfRange)?;
+    Ok(sheet_line(question, answer))
+}
+
+// Marks an answer given as it is typed, and writes the line's bytes into the lent room.
+pub fn mark_typed(numbers: Numbers, typed: Typed, room: &mut [u8]) -> Result<(), Refusal>
+    ensures refusal { refusal_of result ≡ typed_refusal numbers.kind numbers.amount numbers.speed numbers.tolerance typed.unit room.old }
+    ensures room { room.new ≡ room_after numbers.kind numbers.amount numbers.speed numbers.tolerance typed.unit typed.pattern room.old }
+{
+    let question = numbers.question().ok_or(Refusal::OutOfRange)?;
+    let answer = typed.answer().ok_or(Refusal::OutOfRange)?;
+    if room.len() < LINE {
+        return Err(Refusal::ShortRoom);
     }
-    refusal
+    let line = sheet_line(question, answer);
+    let bytes = line_bytes(typed.given(), line);
+    copy(&bytes, room);
+    Ok(())
 }

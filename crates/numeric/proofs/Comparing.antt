@@ -4,7 +4,7 @@ use mathlib.Core.Logic.{◌↔◌}
 use Prim.Native.Nat.{ℕ, ◌+◌, ◌-◌, ◌*◌, ◌≤◌, min}
 use native.Mathlib.Nat.{lt_of_not-le, le_antisymm, add-mul, mul_comm, mul-sub}
 use native.Mathlib.Omega.{arith}
-use mathlib.Core.Bool.{Bool, true, false, not}
+use mathlib.Core.Bool.{Bool, true, false}
 use lib.Dec.{T, leb, leb→le}
 use borrow.Author.Tests.{le-leb, lt-leb}
 use Rattle.numeric.specs.Exact.{apart}
@@ -35,12 +35,3 @@ same_below x y C h = le_antisymm (one x y ((h (min x C) (cap x)).0 (left x))) (o
 
     one : (x y : ℕ) → min x C ≤ y → min x C ≤ min y C
     one x y g = omega arith
-
--- a test that was turned round
-pub holds : (b : Bool) → not b ≡ false → b ≡ true
-holds true e = refl
-holds false e = absurd (subst T e tt)
-
-pub fails : (b : Bool) → not b ≡ true → b ≡ false
-fails true e = absurd (subst T (sym e) tt)
-fails false e = refl

@@ -7,10 +7,10 @@ use native.Mathlib.Nat.{le_trans, le_of_eq, le_of_lt, lt_of_not-le, not-le_of_lt
 use native.Mathlib.Omega.{arith}
 use mathlib.Core.Bool.{Bool, true, false, ◌||◌}
 use lib.Dec.{leb, ltb, eqb}
+use lib.Pow.{pow_pos}
 use borrow.Author.Tests.{eq-eqb, ne_eqb, lt-ltb, le-ltb}
-use Rattle.numeric.specs.Exact.{Value, apart, distance, below}
+use Rattle.numeric.specs.Exact.{Fraction, Value, apart, distance, below}
 use Rattle.numeric.specs.Inner.{cut_down, cut_up, Cuts}
-use Rattle.numeric.specs.declared.exact.Fraction.{Fraction}
 use Rattle.numeric.proofs.Comparing.{sub_mul, leb_alike, same_below}
 
 -- ---- cut_down and cut_up cut
@@ -200,6 +200,13 @@ module _ (t : Fraction) (v : Value) (low high : ℕ) (C : 0 < v.under) (cuts : C
       side false (le-ltb (v.over * t.bottom) (t.top * v.under) (omega (arith, mine, theirs, a_ge (1000 * t.bottom * v.over) v.under low high (1000 * t.top) C cuts small more))),
       parts (low - 1000 * t.top) (high - 1000 * t.top) (cuts_above (1000 * t.bottom * v.over) v.under low high (1000 * t.top) C cuts small more),
     )
+
+-- ---- the same from the number's own parts, as they are scaled: b and d are the numbers bottom and digits
+pub scaled_cuts : (bottom digits power b d low high : ℕ) → b ≡ bottom → d ≡ digits → low ≡ cut_down (1000 * b * d * 2 ^ power) (2 ^ 149) → high ≡ cut_up (1000 * b * d * 2 ^ power) (2 ^ 149)
+    → Cuts (2 ^ 44) (1000 * bottom * (digits * 2 ^ power)) (2 ^ 149) low high
+scaled_cuts bottom digits power b d low high e f g h =
+    cuts_at (1000 * b * d * 2 ^ power) (2 ^ 149) (1000 * bottom * (digits * 2 ^ power)) low high (pow_pos 149)
+    (mul_assoc (1000 * b) d (2 ^ power) ∙ ap (λ (z : ℕ). 1000 * z * (d * 2 ^ power)) e ∙ ap (λ (z : ℕ). 1000 * bottom * (z * 2 ^ power)) f) g h
 
 -- ---- the verdict and the error, from a distance d / (q * c) whose d / c is cut
 module _ (d c low high q : ℕ) (cuts : Cuts (2 ^ 43) d c low high) where

@@ -8,5 +8,4 @@ pub mod Cutting
 pub mod Scaling
 pub mod Stepping
 pub mod SameValue
-pub mod Signs
 pub mod NumberLine

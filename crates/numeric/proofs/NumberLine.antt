@@ -5,11 +5,9 @@ use Prim.Native.Nat.{ℕ}
 use mathlib.Core.Bool.{Bool, true, false, not}
 use lib.IntN.{ℤ, pos}
 use lib.Ieee.{Float}
-use Rattle.numeric.specs.Exact.{is_number, exact_value, right, signed_error}
+use Rattle.numeric.specs.Exact.{Fraction, is_number, exact_value, right, signed_error}
 use Rattle.numeric.specs.Nearest.{model_value}
-use Rattle.numeric.specs.Number.{number_verdict, error_at, line_at}
-use Rattle.numeric.specs.declared.Line.{Line}
-use Rattle.numeric.specs.declared.exact.Fraction.{Fraction}
+use Rattle.numeric.specs.Number.{Line, number_verdict, error_at, line_at}
 
 module _ (t : Fraction) (tolerance : ℕ) where
   -- verdict 4

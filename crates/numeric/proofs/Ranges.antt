@@ -9,9 +9,8 @@ use mathlib.Core.Bool.{Bool, true, false, ◌&&◌, ◌||◌}
 use lib.Dec.{T, leb, eqb, leb→le, eqb→eq}
 use lib.Ieee.Fits.{and_l, and_r}
 use borrow.Author.Tests.{eq-eqb, ne_eqb}
-use Rattle.numeric.specs.Exact.{in_range, exact_answer, ◌÷◌}
+use Rattle.numeric.specs.Exact.{Fraction, in_range, exact_answer, ◌÷◌}
 use Rattle.numeric.specs.Inner.{Small}
-use Rattle.numeric.specs.declared.exact.Fraction.{Fraction}
 
 pub record Ranged (kind amount speed tolerance : ℕ) : Type 0 where
   pub kinds : ((kind ≡ 1) × (amount ≤ 20000)) ⊎ ((kind ≡ 2) × (amount ≤ 10000))
@@ -45,6 +44,9 @@ ranged kind amount speed tolerance h =
 
     named : (n most : ℕ) → T (eqb kind n && leb amount most) → (kind ≡ n) × (amount ≤ most)
     named n most t = (eqb→eq kind n (and_l (eqb kind n) (leb amount most) t), leb→le amount most (and_r (eqb kind n) (leb amount most) t))
+
+pub tolerance_held : (kind amount speed tolerance : ℕ) → in_range kind amount speed tolerance ≡ true → tolerance ≤ 10000
+tolerance_held kind amount speed tolerance h = (ranged kind amount speed tolerance (subst T (sym h) tt)).tolerance_last
 
 -- whole numbers that an f32 holds
 pub under_24 : (n : ℕ) → n ≤ 10000000 → n < 2 ^ 24

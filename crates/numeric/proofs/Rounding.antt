@@ -18,9 +18,8 @@ use lib.Ieee.Exact.{HasValue}
 use lib.Ieee.Nearest.{closest}
 use lib.Ieee.Order.{drop}
 use lib.Ieee.Scale.{grid, overflow, round_val, normal_of_fraction}
-use Rattle.numeric.specs.Exact.{apart, is_number}
+use Rattle.numeric.specs.Exact.{Fraction, apart, is_number}
 use Rattle.numeric.specs.Nearest.{model_value, distance_of, under, Nearest}
-use Rattle.numeric.specs.declared.exact.Fraction.{Fraction}
 use Rattle.numeric.proofs.Comparing.{apart_mul}
 
 -- ---- what `compare` says

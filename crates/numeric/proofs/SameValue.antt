@@ -7,8 +7,7 @@ use lib.Ieee.{Float, nan, inf, fin, up, down}
 use lib.Ieee.Fits.{down_pos}
 use lib.Ieee.Exact.{HasValue}
 use lib.Ieee.Nearest.{div_same}
-use Rattle.numeric.specs.Exact.{Value, apart, distance, right, below, signed, signed_error, is_number, exact_value}
-use Rattle.numeric.specs.declared.exact.Fraction.{Fraction}
+use Rattle.numeric.specs.Exact.{Fraction, Value, apart, distance, right, below, signed, signed_error, is_number, exact_value}
 use Rattle.numeric.proofs.Comparing.{apart_mul, leb_alike}
 
 -- the value ±a / c

@@ -67,3 +67,6 @@ down_whole n w k h = ap (λ (z : ℕ). min z (2 ^ 44)) (sym (mul-div_cancel (n *
 
 pub up_whole : (n w k : ℕ) → w ≤ k → min (n * 2 ^ (k - w)) (2 ^ 44) ≡ cut_up (n * 2 ^ k) (2 ^ w)
 up_whole n w k h = whole_up (n * 2 ^ (k - w)) (2 ^ w) (pow_pos w) ∙ ap (λ (z : ℕ). cut_up z (2 ^ w)) (more n w k h)
+
+-- what `scaled` wants of a step
+pub ruleset scaling = (down_scale, up_scale, down_whole, up_whole)

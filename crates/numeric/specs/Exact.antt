@@ -2,7 +2,6 @@
 use Rattle.std.specs.Prelude.{ℕ, ◌+◌, ◌-◌, ◌*◌, ◌/◌, min, Bool, true, false, ◌&&◌, ◌||◌, leb, ltb, eqb, ℤ, pos, neg_ℤ, Float, if◌then◌else◌}
 use Rattle.std.specs.Float.{nan, inf, fin}
 use Rattle.std.specs.Float.Ieee.{up, down}
-use Rattle.numeric.specs.declared.exact.Fraction.{Fraction}
 
 -- "Kind 1: seconds to run D metres (1..20,000) at v km/h (1..200) .. Kind 2: metres run in T seconds (1..10,000) at v .. Tolerance: 0 to 10,000 thousandths."
 abbrev pub in_range : ℕ → ℕ → ℕ → ℕ → Bool
@@ -12,6 +11,11 @@ in_range kind amount speed tolerance =
     && leb 1 speed
     && leb speed 200
     && leb tolerance 10000
+
+-- the fraction top / bottom
+pub record Fraction : Type 0 where
+  pub top : ℕ
+  pub bottom : ℕ
 
 infix 25 ◌÷◌
 abbrev pub ◌÷◌ : ℕ → ℕ → Fraction

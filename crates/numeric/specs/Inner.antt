@@ -1,8 +1,7 @@
 -- A reader need not believe this file: what the functions below the calls of marking say of their results. The promises of the calls do not cite it.
 use Rattle.std.specs.Prelude.{ℕ, ◌+◌, ◌-◌, ◌*◌, ◌/◌, ◌%◌, ◌^◌, ◌≤◌, ◌<◌, min, Bool, ◌↔◌, leb, ltb, eqb, if◌then◌else◌}
-use Rattle.numeric.specs.Exact.{Value}
-use Rattle.numeric.specs.declared.exact.Fraction.{Fraction}
-use Rattle.numeric.specs.declared.judged.Parts.{Parts}
+use Rattle.numeric.specs.Exact.{Fraction, Value}
+use Rattle.numeric.specs.declared.parts.Parts.{Parts}
 
 -- how large the exact answer of a question in range may be
 pub record Small (t : Fraction) : Type 0 where

@@ -2,8 +2,7 @@
 use Rattle.std.specs.Prelude.{ℕ, ◌*◌, ◌^◌, ◌≤◌, false, T, Float}
 use Rattle.std.specs.Float.{binary32}
 use Rattle.std.specs.Float.Ieee.{round, fits}
-use Rattle.numeric.specs.Exact.{is_number, exact_value, distance}
-use Rattle.numeric.specs.declared.exact.Fraction.{Fraction}
+use Rattle.numeric.specs.Exact.{Fraction, is_number, exact_value, distance}
 
 -- the fraction, rounded as a division of floats rounds it
 abbrev pub model_value : Fraction → Float

@@ -1,27 +1,20 @@
 // A plan and a situation that are given apart, each as the records of a question.
 ghost use Rattle.std.specs.Prelude.{◌≡◌};
-ghost use Rattle.paper.specs.Given.{given, there};
+ghost use Rattle.paper.specs.Given.{given};
+ghost use Rattle.paper.specs.GivenAs.{given_as};
 
-use records::plan::take_plan;
-use records::situation::take_situation;
+use block::line::Plan;
+use records::plan::{is_plan, plan_in};
+use records::situation::is_situation;
+use situation::Situation;
+use situations::situation_in;
 
-// Whether both are exactly such records.
-pub fn both_given(plan: &[u8], situation: &[u8]) -> bool
-    ensures { result ≡ there (given plan.now situation.now) }
+// The plan and the situation, where both are exactly such records.
+pub fn both_given(plan: &[u8], situation: &[u8]) -> Option<(Plan, Situation)>
+    ensures { given_as result ≡ given plan.now situation.now }
 {
-    let used = take_plan(plan);
-    if used == 0 {
-        return false;
+    if is_plan(plan) && is_situation(situation) {
+        return Some((plan_in(plan), situation_in(situation)));
     }
-    if used < plan.len() {
-        return false;
-    }
-    let used = take_situation(situation);
-    if used == 0 {
-        return false;
-    }
-    if used < situation.len() {
-        return false;
-    }
-    true
+    None
 }

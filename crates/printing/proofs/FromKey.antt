@@ -10,13 +10,20 @@ use Rattle.keytext.specs.Text.{lines, words}
 use Rattle.keytext.proofs.LinesOfSlots.{lines_of_slots}
 use Rattle.paper.specs.Read.{read_of}
 use Rattle.keys.specs.Key.{Accepted, question_in, rules}
-use Rattle.keys.specs.Calls.{Fetch, left_by, nothing, given, part_of, fetched}
-use Rattle.keys.specs.declared.Fetched.{Fetched}
+use Rattle.keys.specs.Calls.{Fetch, nothing, given, part_of, fetched}
 use Rattle.keys.proofs.KeyOfAQuestion.{call_gives_part}
-use Rattle.printing.specs.Pieces.{refusal, left}
-use Rattle.printing.specs.declared.Progress.{Progress}
+use Rattle.printing.specs.Pieces.{Progress, refusal, left}
 use Rattle.printing.proofs.LeftLaws.{left_short, lines_fit, last_slot_of}
 use Rattle.printing.proofs.PieceSteps.{accepted}
+
+-- what the call tells, by its numbers
+pub record Fetched : Type 0 where
+  pub refusal : ℕ
+  pub more : Bool
+  pub count : ℕ
+
+abbrev pub left_by : Fetched → List ℕ → Fetch
+left_by r room = record { refusal = r.refusal; part = handed room r.count r.more }
 
 -- the call, with room for n slots, one at least
 pub record Called (bytes : List ℕ) (progress : Progress) (n : ℕ) (room now : List ℕ) (r : Fetched) : Type 0 where

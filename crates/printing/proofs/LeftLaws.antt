@@ -15,8 +15,7 @@ use Rattle.keytext.proofs.LinesOfSlots.{lines_short}
 use Rattle.keytext.proofs.WordLaws.{Bytes}
 use Rattle.keys.specs.Key.{Accepted, question_in, rules}
 use Rattle.keys.proofs.Accepted.{bounded}
-use Rattle.printing.specs.Pieces.{left}
-use Rattle.printing.specs.declared.Progress.{Progress}
+use Rattle.printing.specs.Pieces.{Progress, left}
 
 permitted_bytes : (n : ℕ) (w : Word) → n ≤ 12 → Permitted n w → Bytes w
 permitted_bytes n w h p i = go (ltb i (length w)) refl

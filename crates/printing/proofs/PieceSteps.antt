@@ -6,8 +6,7 @@ use Rattle.keylaws.specs.Continuation.{is_continuation}
 use Rattle.keylaws.proofs.Tests.{never}
 use Rattle.keytext.specs.Text.{refused}
 use Rattle.keys.specs.Key.{Accepted, question_in, rules}
-use Rattle.printing.specs.Pieces.{the_end, refusal, left, Given, last_piece, lines_piece, fitting, piece}
-use Rattle.printing.specs.declared.Progress.{Progress}
+use Rattle.printing.specs.Pieces.{Progress, the_end, refusal, left, Given, last_piece, lines_piece, fitting, piece}
 
 -- no refusal: the question is accepted, and the progress goes on in it
 none_refused : (r : ℕ) (c : Bool) → (if eqb r 0 then (if c then 0 else 22) else r) ≡ 0 → (r ≡ 0) × (c ≡ true)

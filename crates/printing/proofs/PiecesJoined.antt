@@ -14,8 +14,7 @@ use Rattle.paper.specs.Read.{read_of}
 use Rattle.keys.specs.Key.{question_in, rules, key_of}
 use Rattle.keys.proofs.Accepted.{bounded}
 use Rattle.printing.specs.Printed.{printed}
-use Rattle.printing.specs.Pieces.{start, the_end, refusal, left, counted, Given, last_piece, lines_piece, fitting, piece, pieces, joined, reached, Rooms, rest}
-use Rattle.printing.specs.declared.Progress.{Progress}
+use Rattle.printing.specs.Pieces.{Progress, start, the_end, refusal, left, counted, Given, last_piece, lines_piece, fitting, piece, pieces, joined, reached, Rooms, rest}
 use Rattle.printing.proofs.LeftLaws.{goes_on, continues}
 use Rattle.printing.proofs.PieceSteps.{accepted, by_case}
 

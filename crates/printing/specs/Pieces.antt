@@ -1,5 +1,5 @@
 -- The text is handed out in pieces, each by a call with lent room. The pieces joined are `printed` (proofs/PiecesJoined.antt).
-use Rattle.std.specs.Prelude.{ℕ, ◌+◌, ◌-◌, ◌/◌, ◌%◌, ◌^◌, ◌≤◌, min, true, false, ltb, List, [], ◌∷◌, ◌++◌, length, take, nat_eq, nat_le, slice_index_or, if◌then◌else◌}
+use Rattle.std.specs.Prelude.{ℕ, ◌+◌, ◌-◌, ◌/◌, ◌%◌, ◌^◌, ◌≤◌, min, Bool, true, false, ltb, Option, None, Some, List, [], ◌∷◌, ◌++◌, length, take, nat_eq, nat_le, slice_index_or, if◌then◌else◌}
 use mathlib.Core.List.{flatten}
 use Rattle.words.specs.Words.{◌or◌}
 use Rattle.keylaws.specs.Rules.{Word}
@@ -8,14 +8,24 @@ use Rattle.keylaws.specs.Continuation.{from_start, is_continuation, answers_afte
 use Rattle.keytext.specs.Text.{lines, total, refused}
 use Rattle.paper.specs.Read.{read_of}
 use Rattle.keys.specs.Key.{question_in, rules}
-use Rattle.printing.specs.declared.Progress.{Progress}
+use Rattle.printing.specs.declared.Position.{Position}
 
 -- ---- where the printing is: after which slot it goes on, how many sequences have their lines, and whether the text has ended
+pub record Progress : Type 0 where
+  pub after : List ℕ
+  pub total : ℕ
+  pub ended : Bool
+
 abbrev pub start : Progress
 start = record { after = from_start; total = 0; ended = false }
 
 abbrev pub the_end : Progress
 the_end = record { after = from_start; total = 0; ended = true }
+
+-- in the code: none once the text has ended
+abbrev pub progress_of : Option Position → Progress
+progress_of None = the_end
+progress_of (Some p) = record { after = p.after; total = p.total; ended = false }
 
 -- the refusal of the question; of a progress whose place to continue after is malformed: 22
 abbrev pub refusal : List ℕ → Progress → ℕ

@@ -2,6 +2,7 @@ pub mod CountedItems
 pub mod Laid
 pub mod WritingTells
 pub mod AcceptedQuestions
+pub mod RefusedQuestions
 pub mod ReadFound
 pub mod WrittenIsRead
 pub mod OneForm

@@ -1,49 +1,36 @@
--- What is found of a question, as it is read: the items that lie there, or zeros. Assumes nothing.
+-- A question that is found, as it is read: its items fill their bytes. Assumes nothing.
 use Prim.Native.Nat.{ℕ, ◌*◌, ◌/◌, ◌≤◌}
-use mathlib.Core.Path.{◌≡◌, sym, ap, ◌∙◌}
+use mathlib.Core.Path.{◌≡◌}
 use mathlib.Core.List.{List}
 use native.Mathlib.Omega.{arith}
 use lib.ListN.{length}
-use Rattle.records.specs.InBytes.{part}
+use Rattle.std.specs.Prelude.{Ok}
 use Rattle.records.proofs.InBytes as InBytes
-use Rattle.paper.specs.Question.{Question}
-use Rattle.paper.specs.Refusal.{refusal_of}
-use Rattle.paper.specs.Read.{Read, zeros, refused, read_of}
-use Rattle.paper.specs.Found.{found_as}
-use Rattle.paper.specs.declared.found.Found.{Found}
+use Rattle.paper.specs.Read.{read_of}
+use Rattle.paper.specs.Found.{found_as, asked as asked_there}
+use Rattle.paper.specs.declared.question.Accepted.{Accepted}
 use Rattle.questions.specs.InCode.{told, zeros_past}
 use Rattle.questions.specs.declared.question.Items.{Items}
-use Rattle.questions.proofs.CountedItems.{Filled, zeros_kept, events_filled, readings_filled}
-use Rattle.paper.proofs.ReadBytes.{refused_bytes, read_is_accepted}
+use Rattle.questions.proofs.CountedItems.{Filled, counted_kept, zeros_kept}
 use Rattle.questions.proofs.AcceptedQuestions.{events_counted, readings_counted}
 
-module _ (at : Found) (bytes : List ℕ) (e : found_as at bytes ≡ read_of bytes) where
-  refusal_is : at.refusal ≡ (read_of bytes).refusal
-  refusal_is = ap (λ (r : Read). r.refusal) e
+module _ (a : Accepted) where
+  pub few_events : length a.events.now ≤ 24
+  few_events = omega (arith, (events_counted (asked_there a) a.accepted).1, a.events_whole)
 
-  pub zeros_read : (q : Question) → q ≡ zeros → (at.refusal ≡ 0 → ⊥) → record { refusal = at.refusal; question = q } ≡ read_of bytes
-  unfolding refused
-  zeros_read q z h = rw (z, refusal_is) (sym (refused_bytes bytes (λ n. h (refusal_is ∙ n))))
+  pub few_readings : length a.readings.now ≤ 24
+  few_readings = omega (arith, readings_counted (asked_there a) a.accepted, a.readings_whole)
 
-  abbrev events_bytes : List ℕ
-  events_bytes = part at.events at.events_end bytes
+  whole_events : length a.events.now ≡ 2 * (length a.events.now / 2)
+  whole_events = omega (arith, a.events_whole, InBytes.events_counted a.events.now)
 
-  abbrev readings_bytes : List ℕ
-  readings_bytes = part at.readings at.readings_end bytes
+  whole_readings : length a.readings.now ≡ 3 * (length a.readings.now / 3)
+  whole_readings = omega (arith, a.readings_whole, InBytes.readings_counted a.readings.now)
 
-  module _ (ok : at.refusal ≡ 0) where
-    right : refusal_of (read_of bytes).question ≡ 0
-    right = read_is_accepted bytes (sym refusal_is ∙ ok)
+  module _ (events : Items 2) (readings : Items 3) (f : Filled 2 a.events.now events) (g : Filled 3 a.readings.now readings) where
+    pub items_read : (bytes : List ℕ) → found_as (Ok a) ≡ read_of bytes
+        → told (Ok (record { plan = a.plan; situation = a.situation; events = events; readings = readings; length = a.length })) ≡ read_of bytes
+    items_read bytes e = rw (counted_kept 2 a.events.now whole_events events f, counted_kept 3 a.readings.now whole_readings readings g) e
 
-    pub few_events : 2 * (length events_bytes / 2) ≤ 24
-    few_events = omega (arith, (events_counted (read_of bytes).question right).1, ap (λ (r : Read). length r.question.events) e, InBytes.events_counted events_bytes)
-
-    pub few_readings : 3 * (length readings_bytes / 3) ≤ 24
-    few_readings = omega (arith, readings_counted (read_of bytes).question right, ap (λ (r : Read). length r.question.readings) e, InBytes.readings_counted readings_bytes)
-
-    pub items_read : (events readings : Items) → Filled 2 events_bytes events → Filled 3 readings_bytes readings
-        → (told (record { refusal = 0; question = record { plan = at.plan; situation = at.situation; events = events; readings = readings; length = at.length } }) ≡ read_of bytes)
-        × ((zeros_past 2 events ≡ events) × (zeros_past 3 readings ≡ readings))
-    items_read events readings f g =
-        let refused-with : ℕ → Read = λ (n : ℕ). record { refusal = n; question = (found_as at bytes).question } in
-        (rw (events_filled events_bytes events f, readings_filled readings_bytes readings g) (ap refused-with (sym ok) ∙ e), (zeros_kept 2 events_bytes events f, zeros_kept 3 readings_bytes readings g))
+    pub zeros_read : (zeros_past 2 events ≡ events) × (zeros_past 3 readings ≡ readings)
+    zeros_read = (zeros_kept 2 a.events.now whole_events events f, zeros_kept 3 a.readings.now whole_readings readings g)

@@ -8,8 +8,7 @@ use lib.ListN.{length}
 use Rattle.paper.specs.Question.{Question, written}
 use Rattle.paper.specs.Refusal.{refusal_of}
 use Rattle.forms.specs.Form.{laid}
-use Rattle.questions.specs.Write.{write_refusal, written_of, room_after}
-use Rattle.questions.specs.declared.write.Written.{Written}
+use Rattle.questions.specs.Write.{Written, write_refusal, written_of, room_after}
 
 abbrev Tells : Question → List ℕ → Written → List ℕ → Type 0
 Tells q room told after = (told ≡ written_of q room) × (after ≡ room_after q room)

@@ -4,7 +4,11 @@ use Rattle.forms.specs.Form.{laid}
 use Rattle.lists.specs.Refusal.{◌unless◌, ◌or_else◌}
 use Rattle.paper.specs.Question.{Question, written}
 use Rattle.paper.specs.Refusal.{refusal_of}
-use Rattle.questions.specs.declared.write.Written.{Written}
+
+-- how many bytes were written, or the refusal and 0
+pub record Written : Type 0 where
+  pub refusal : ℕ
+  pub length : ℕ
 
 -- "24 room .. too short for a question being written"
 unfoldable pub write_refusal : Question → List ℕ → ℕ

@@ -1,5 +1,6 @@
 // Whether a question is accepted, and the refusal of any other: counts out of range 20, then 1, 2, 3 and 4 event by event, then 21.
 ghost use Rattle.std.specs.Prelude.{◌≡◌, ◌≤◌};
+ghost use Rattle.block.specs.Refusals.{told};
 ghost use Rattle.lists.specs.Refusal.{lists_refusal};
 ghost use Rattle.records.specs.InBytes.{events_in, readings_in};
 ghost use Rattle.paper.specs.Refusal.{counts_in_range, refusal_of};
@@ -7,11 +8,10 @@ ghost use Rattle.questions.specs.InCode.{counted, asked};
 
 use super::question::{Items, Question};
 use block::line::Plan;
-use block::refused::{ACCEPTED, NO_FORM};
+use block::refused::Refusal;
 use lists::lists_refusal;
 use records::lists::{EVENT, MOST_EVENTS, MOST_READINGS, READING};
 use soundness::judged;
-use words::wide;
 
 fn counts_in_range(events: u8, readings: u8) -> bool
     ensures { result ≡ counts_in_range events readings }
@@ -20,26 +20,24 @@ fn counts_in_range(events: u8, readings: u8) -> bool
 }
 
 // What the listed events, the readings and the length give.
-fn items_refusal(plan: Plan, events: Items, readings: Items, length: u8) -> u8
+fn items_refusal(
+    plan: Plan,
+    events: Items<EVENT>,
+    readings: Items<READING>,
+    length: u8,
+) -> Result<(), Refusal>
     requires { (events.count ≤ 12) × (readings.count ≤ 6) }
-    ensures { result ≡ lists_refusal plan (events_in (counted 2 events)) (readings_in (counted 3 readings)) length }
+    ensures { told result ≡ lists_refusal plan (events_in (counted 2 events)) (readings_in (counted 3 readings)) length }
 {
-    let listed = events.bytes;
-    let read = readings.bytes;
-    let n = EVENT * wide(events.count);
-    let m = READING * wide(readings.count);
-    lists_refusal(plan, &listed[..n], &read[..m], length)
+    lists_refusal(plan, events.listed(), readings.listed(), length)
 }
 
-pub(crate) fn refusal_of(q: Question) -> u8
-    ensures { result ≡ refusal_of (asked q) }
+pub(crate) fn refusal_of(q: Question) -> Result<(), Refusal>
+    ensures { told result ≡ refusal_of (asked q) }
 {
     if !counts_in_range(q.events.count, q.readings.count) {
-        return NO_FORM;
+        return Err(Refusal::NoForm);
     }
-    let refusal = judged(q.plan, q.situation);
-    if refusal != ACCEPTED {
-        return refusal;
-    }
+    judged(q.plan, q.situation)?;
     items_refusal(q.plan, q.events, q.readings, q.length)
 }

@@ -1,16 +1,16 @@
 -- Records at the front of bytes: what the code finds there is what the forms take. Assumes nothing.
 use Rattle.std.specs.Prelude.{if◌then◌else◌}
-use Prim.Native.Nat.{ℕ, ◌+◌, ◌*◌, ◌≤◌, ◌<◌}
+use Prim.Native.Nat.{ℕ, suc, ◌+◌, ◌-◌, ◌*◌, ◌≤◌, ◌<◌}
 use mathlib.Core.Path.{◌≡◌, refl, sym, ap, ◌∙◌}
-use mathlib.Core.Bool.{Bool, true, false, not}
+use mathlib.Core.Bool.{Bool, true, false, not, ◌&&◌}
 use mathlib.Core.List.{List, [], ◌∷◌}
 use native.Mathlib.Omega.{arith}
 use native.Mathlib.Nat.{mul-le-mul, mul_comm}
 use borrow.Author.Tests.{le-leb, lt-leb, leb-true, leb-false}
 use mir.Syntax.{w8}
 use mir.Val.{Fits}
-use lib.ListN.{length, drop, get_or, length-drop}
-use lib.Seq.{get_or-drop, drop-drop}
+use lib.ListN.{length, take, drop, get_or, length-drop}
+use lib.Seq.{get_or-drop, drop-drop, length-take-le}
 use lib.Dec.{eqb, leb}
 use Rattle.words.specs.Words.{◌and◌}
 use Rattle.forms.specs.declared.Letters.{Letters}
@@ -35,12 +35,6 @@ pub bytes_of : (s : List ℕ) → ((i : ℕ) → Fits w8 (get_or s i 0)) → Byt
 bytes_of s h i = (h i).fits
 
 -- ---- two letters and so many bytes
--- the letters, as the code compares them
-pub stands_at : (m : Letters) (s : List ℕ) → 2 ≤ length s → stands m s ≡ (eqb (get_or s 0 0) m.first and eqb (get_or s 1 0) m.second)
-stands_at m [] h = absurd (omega arith)
-stands_at m (x ∷ []) h = absurd (omega arith)
-stands_at m (x ∷ y ∷ s) h = refl
-
 and_false : (v : Bool) → v and false ≡ false
 and_false true = refl
 and_false false = refl
@@ -53,9 +47,28 @@ pub and_true : (v : Bool) → v and true ≡ v
 and_true true = refl
 and_true false = refl
 
-pub long_stands : (m : Letters) (size : ℕ) (s : List ℕ) → 2 + size ≤ length s → stands_with m size s ≡ (eqb (get_or s 0 0) m.first and eqb (get_or s 1 0) m.second)
+-- two more on both sides
+same_two : (a b : ℕ) → leb (2 + a) (suc (suc b)) ≡ leb a b
+same_two a b = by (leb a b) refl
+  where
+    by : (v : Bool) → leb a b ≡ v → leb (2 + a) (suc (suc b)) ≡ v
+    by true e = le-leb (2 + a) (suc (suc b)) (omega (arith, leb-true a b e))
+    by false e = lt-leb (2 + a) (suc (suc b)) (omega (arith, leb-false a b e))
+
+-- the letters, and then as many bytes as there are to the end
+pub long_stands : (m : Letters) (size : ℕ) (s : List ℕ) → 2 ≤ length s
+    → ((eqb (get_or s 0 0) m.first && eqb (get_or s 1 0) m.second) && leb size (length (take (length s - 2) (drop 2 s)))) ≡ stands_with m size s
 unfolding stands_with
-long_stands m size s h = rw (le-leb (2 + size) (length s) h) (and_true (stands m s) ∙ stands_at m s (omega arith))
+long_stands m size [] h = absurd (omega arith)
+long_stands m size (x ∷ []) h = absurd (omega arith)
+long_stands m size (x ∷ y ∷ s) h =
+    let l : length (take (length (x ∷ y ∷ s) - 2) s) ≡ length s = length-take-le (length (x ∷ y ∷ s) - 2) s (omega arith) ∙ omega arith in
+    rw (l, same_two size (length s)) (joined (eqb x m.first) (eqb y m.second) (leb size (length s)))
+  where
+    joined : (a b c : Bool) → ((a && b) && c) ≡ (a and b and c)
+    joined true true c = refl
+    joined true false c = refl
+    joined false b c = refl
 
 module _ (m : Letters) (size : ℕ) (s : List ℕ) (h : stands_with m size s ≡ true) where
   pub stands_long : 2 + size ≤ length s

@@ -1,8 +1,9 @@
 -- Records as the code has them, in bytes: they are what the forms write. Assumes nothing.
 use Rattle.std.specs.Prelude.{if◌then◌else◌}
-use Prim.Native.Nat.{ℕ, zero, suc, ◌+◌, ◌-◌, ◌*◌, ◌/◌, ◌≤◌, ◌<◌}
+use Rattle.std.specs.Simd.{first_chunks}
+use Prim.Native.Nat.{ℕ, zero, suc, ◌-◌, ◌*◌, ◌/◌, ◌≤◌, ◌<◌}
 use mathlib.Core.Path.{◌≡◌, refl, sym, ap, ◌∙◌}
-use mathlib.Core.Bool.{Bool, true, false}
+use mathlib.Core.Bool.{Bool, true, false, false≢true}
 use mathlib.Core.List.{List, [], ◌∷◌, ◌++◌, append-nil}
 use native.Mathlib.Omega.{arith}
 use lib.ListN.{length, take, drop, get_or, length-drop}
@@ -16,7 +17,7 @@ use Rattle.block.specs.declared.reading.Reading.{Reading}
 use Rattle.forms.specs.declared.Letters.{Letters}
 use Rattle.forms.specs.Compose.{each_written, letters, section, named}
 use Rattle.forms.specs.Choices.{left_out}
-use Rattle.forms.specs.Whole.{accepted, whole}
+use Rattle.forms.specs.Whole.{Whole, refused, accepted, whole}
 use Rattle.forms.specs.Taken.{value}
 use Rattle.forms.proofs.Reading.{both}
 use Rattle.forms.proofs.Fields.{section_law}
@@ -25,9 +26,10 @@ use Rattle.records.specs.Situation.{SI, SJ, Codes, codes_made, code_parts, body,
 use Rattle.records.specs.Lists.{one_event, one_reading, event_at}
 use Rattle.records.specs.InBytes.{events_in, readings_in, codes_at, both_zero, plan_at}
 use Rattle.records.specs.Plan.{of_2024, of_2012, plan}
+use Rattle.records.specs.Sizes.{is_accepted}
 use Rattle.records.proofs.RecordLaws.{plan_law, situation_law}
-use Rattle.records.proofs.PlanForms.{same_plan, plan_written_as}
-use Rattle.records.proofs.SituationForms.{FieldsFit, fields_fit, SJ_says, written_as}
+use Rattle.records.proofs.PlanForms.{same_plan, plan_written_as, plan_long_enough}
+use Rattle.records.proofs.SituationForms.{FieldsFit, fields_fit, SJ_says, written_as, long_enough}
 
 pub events_written_in : (items : List Event) → events_in (each_written one_event items) ≡ items
 unfolding events_in
@@ -79,19 +81,19 @@ events_in_written (c ∷ []) n h = absurd (omega arith)
 events_in_written (c ∷ a ∷ t) zero h = absurd (omega arith)
 events_in_written (c ∷ a ∷ t) (suc n) h = ap (λ (u : List ℕ). c ∷ a ∷ u) (events_in_written t n (omega arith))
 
-nth_event : (t : List ℕ) (i : ℕ) → 2 * i + 2 ≤ length t → event (get_or t (2 * i) 0) (get_or t (2 * i + 1) 0) ≡ get_or (events_in t) i (event 0 0)
+-- the bytes two by two
+nth_event : (t : List ℕ) (k i : ℕ) → i < k → 2 * k ≤ length t → event (get_or (get_or (first_chunks 2 k t) i []) 0 0) (get_or (get_or (first_chunks 2 k t) i []) 1 0) ≡ get_or (events_in t) i (event 0 0)
 unfolding events_in
-nth_event [] i l = absurd (omega arith)
-nth_event (c ∷ []) i l = absurd (omega arith)
-nth_event (c ∷ a ∷ t) zero l = refl
-nth_event (c ∷ a ∷ t) (suc i) l =
-    let e : 2 * suc i ≡ suc (suc (2 * i)) = omega arith in
-    let f : 2 * suc i + 1 ≡ suc (suc (2 * i + 1)) = omega arith in
-    rw (f, e) (nth_event t i (omega arith))
+nth_event t zero i l h = absurd (omega arith)
+nth_event [] (suc k) i l h = absurd (omega arith)
+nth_event (c ∷ []) (suc k) i l h = absurd (omega arith)
+nth_event (c ∷ a ∷ t) (suc k) zero l h = refl
+nth_event (c ∷ a ∷ t) (suc k) (suc i) l h = nth_event t k i (omega arith) (omega arith)
 
-pub event_at_place : (t : List ℕ) (place : ℕ) → 1 ≤ place → 2 * place ≤ length t → event (get_or t (2 * (place - 1)) 0) (get_or t (2 * (place - 1) + 1) 0) ≡ event_at (events_in t) place
+pub event_at_place : (t : List ℕ) (pairs : List (List ℕ)) (place : ℕ) → pairs ≡ first_chunks 2 (length t / 2) t → 1 ≤ place → 2 * place ≤ length t
+    → event (get_or (get_or pairs (place - 1) []) 0 0) (get_or (get_or pairs (place - 1) []) 1 0) ≡ event_at (events_in t) place
 unfolding event_at
-event_at_place t place l h = nth_event t (place - 1) (omega arith)
+event_at_place t pairs place e l h = rw e (nth_event t (length t / 2) (place - 1) (omega arith) (omega arith))
 
 -- ---- readings, one by one
 pub readings_end : (t : List ℕ) → length t < 3 → readings_in t ≡ []
@@ -165,6 +167,13 @@ codes_alone s c h =
     let o = Whole.one_form situation_law.lawful s c h in
     ap codes_at (sym o.1) ∙ codes_written_at c o.0
 
+pub situation_long : (s : List ℕ) → is_accepted (whole situation s) ≡ true → 21 ≤ length s
+situation_long s h = by (whole situation s) refl h
+  where
+    by : (w : Whole Codes) → whole situation s ≡ w → is_accepted w ≡ true → 21 ≤ length s
+    by refused e f = absurd (false≢true f)
+    by (accepted c) e f = omega (arith, long_enough c, ap length (Whole.one_form situation_law.lawful s c e).1)
+
 -- ---- the plan
 pub plan_written_at : (p : Plan) (rest : List ℕ) → plan_at (plan.written p ++ rest) ≡ p
 plan_written_at p rest = ap (λ (t : List ℕ). plan_at (t ++ rest)) (plan_written_as p) ∙ by p.rules2012 refl
@@ -172,6 +181,13 @@ plan_written_at p rest = ap (λ (t : List ℕ). plan_at (t ++ rest)) (plan_writt
     by : (v : Bool) → p.rules2012 ≡ v → plan_at ((if v then of_2012.written p else of_2024.written p) ++ rest) ≡ p
     by true e = same_plan p (sym e)
     by false e = same_plan p (sym e)
+
+pub plan_long : (s : List ℕ) → is_accepted (whole plan s) ≡ true → 4 ≤ length s
+plan_long s h = by (whole plan s) refl h
+  where
+    by : (w : Whole Plan) → whole plan s ≡ w → is_accepted w ≡ true → 4 ≤ length s
+    by refused e f = absurd (false≢true f)
+    by (accepted p) e f = omega (arith, plan_long_enough p, ap length (Whole.one_form plan_law.lawful s p e).1)
 
 pub plan_alone : (s : List ℕ) (p : Plan) → whole plan s ≡ accepted p → plan_at s ≡ p
 plan_alone s p h = ap plan_at (sym (append-nil (plan.written p) ∙ (Whole.one_form plan_law.lawful s p h).1)) ∙ plan_written_at p []

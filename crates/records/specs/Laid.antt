@@ -1,25 +1,33 @@
--- A reader need not believe this file: where the records of a question lie, each after the one before it. proofs/Lies shows what lies there.
-use Rattle.std.specs.Prelude.{ℕ, ◌+◌, true, false, length}
+-- A reader need not believe this file: what lies in the bytes of a question, as the code hands it out. proofs/Lies shows what can be read there.
+use Rattle.std.specs.Prelude.{ℕ, List, Option, None, Some}
+use Rattle.forms.specs.Compose.{each_written}
 use Rattle.forms.specs.Whole.{Whole, refused, accepted}
 use Rattle.records.specs.Plan.{plan}
 use Rattle.records.specs.Situation.{situation}
-use Rattle.records.specs.Lists.{events, readings}
+use Rattle.records.specs.Lists.{one_event, one_reading}
 use Rattle.records.specs.Question.{Parts}
 use Rattle.records.specs.declared.question.Laid.{Laid}
 
-module _ (v : Parts) where
-  abbrev pub si_at : ℕ
-  si_at = length (plan.written v.0)
+-- the bytes of the plan's record and of the situation's, those of the events and of the readings, and the length
+pub record Bytes : Type 0 where
+  pub plan : List ℕ
+  pub situation : List ℕ
+  pub events : List ℕ
+  pub readings : List ℕ
+  pub length : ℕ
 
-  abbrev pub ev_at : ℕ
-  ev_at = si_at + length (situation.written v.1.0)
+abbrev pub bytes_laid : Laid → Bytes
+bytes_laid l = record { plan = l.plan.now; situation = l.situation.now; events = l.events.now; readings = l.readings.now; length = l.length }
 
-  abbrev pub rd_at : ℕ
-  rd_at = ev_at + length (events.written v.1.1.0)
+abbrev pub bytes_of_parts : Parts → Bytes
+bytes_of_parts v = record {
+  plan = plan.written v.0;
+  situation = situation.written v.1.0;
+  events = each_written one_event v.1.1.0;
+  readings = each_written one_reading v.1.1.1.0;
+  length = v.1.1.1.1;
+}
 
-  abbrev pub ln_at : ℕ
-  ln_at = rd_at + length (readings.written v.1.1.1.0)
-
-abbrev pub laid_in : Whole Parts → Laid
-laid_in refused = record { there = false; si = 0; ev = 0; rd = 0; ln = 0 }
-laid_in (accepted v) = record { there = true; si = si_at v; ev = ev_at v; rd = rd_at v; ln = ln_at v }
+abbrev pub laid_in : Whole Parts → Option Bytes
+laid_in refused = None
+laid_in (accepted v) = Some (bytes_of_parts v)

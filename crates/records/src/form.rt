@@ -1,45 +1,50 @@
 // What the records share: two letters before so many bytes, and a count before items.
 ghost use Rattle.std.specs.Prelude.{◌≡◌, ◌+◌, ◌*◌, ◌≤◌, length};
-ghost use Rattle.records.specs.Sizes.{stands_with, fixed, counted};
+ghost use Rattle.records.specs.Sizes.{IsExtent, stands_with, fixed, counted};
 
 use forms::Letters;
-use words::wide;
+
+// What stands before the items of a list: two letters and a count.
+pub(crate) const HEAD: usize = 3;
 
 // Whether the letters stand at the front, with at least so many bytes after them.
 pub(crate) fn stands(s: &[u8], letters: Letters, size: usize) -> bool
     ensures { result ≡ stands_with letters size s.now }
 {
-    if s.len() < 2 {
+    let [first, second, rest @ ..] = s else {
         return false;
-    }
-    if s.len() - 2 < size {
-        return false;
-    }
-    (s[0] == letters.first) & (s[1] == letters.second)
+    };
+    (*first == letters.first) & (*second == letters.second) & (size <= rest.len())
 }
 
-// How many bytes a record of two letters and so many bytes takes; 0 where it does not stand there.
-pub(crate) fn fixed(s: &[u8], letters: Letters, size: usize) -> usize
-    ensures { (result ≡ fixed letters size s.now) × (result ≤ length s.now) }
+// How many bytes a record of two letters and so many bytes takes; None where it does not stand there.
+pub(crate) fn fixed(s: &[u8], letters: Letters, size: usize) -> Option<usize>
+    ensures { IsExtent (fixed letters size s.now) s.now result }
 {
     if stands(s, letters, size) {
-        return 2 + size;
+        return Some(2 + size);
     }
-    0
+    None
 }
 
 // The same of two letters, a count, least to most, and so many items of so many bytes each.
-pub(crate) fn counted(s: &[u8], letters: Letters, least: u8, most: u8, width: usize) -> usize
+pub(crate) fn counted(
+    s: &[u8],
+    letters: Letters,
+    least: u8,
+    most: u8,
+    width: usize,
+) -> Option<usize>
     requires { width ≤ 3 }
-    ensures { (result ≡ counted letters least most width s.now) × (result ≤ length s.now) }
+    ensures { IsExtent (counted letters least most width s.now) s.now result }
 {
     if !stands(s, letters, 1) {
-        return 0;
+        return None;
     }
     let count = s[2];
-    let used = 3 + width * wide(count);
+    let used = HEAD + width * usize::from(count);
     if (least <= count) & (count <= most) & (used <= s.len()) {
-        return used;
+        return Some(used);
     }
-    0
+    None
 }

@@ -3,6 +3,7 @@ ghost use Rattle.std.specs.Prelude.{◌≡◌, ◌*◌, ◌≤◌, length};
 ghost use Rattle.forms.specs.Taken.{taken};
 ghost use Rattle.records.specs.Lists.{events, readings, answer_length, event_at};
 ghost use Rattle.records.specs.InBytes.{events_in};
+ghost use Rattle.records.specs.Sizes.{IsExtent};
 
 use super::form::{counted, fixed};
 use block::event::Event;
@@ -32,20 +33,20 @@ pub const EVENT: usize = 2;
 
 pub const READING: usize = 3;
 
-pub(crate) fn take_events(s: &[u8]) -> usize
-    ensures { (result ≡ taken events s.now) × (result ≤ length s.now) }
+pub(crate) fn take_events(s: &[u8]) -> Option<usize>
+    ensures { IsExtent (taken events s.now) s.now result }
 {
     counted(s, EV, 1, MOST_EVENTS, EVENT)
 }
 
-pub(crate) fn take_readings(s: &[u8]) -> usize
-    ensures { (result ≡ taken readings s.now) × (result ≤ length s.now) }
+pub(crate) fn take_readings(s: &[u8]) -> Option<usize>
+    ensures { IsExtent (taken readings s.now) s.now result }
 {
     counted(s, RD, 0, MOST_READINGS, READING)
 }
 
-pub(crate) fn take_length(s: &[u8]) -> usize
-    ensures { (result ≡ taken answer_length s.now) × (result ≤ length s.now) }
+pub(crate) fn take_length(s: &[u8]) -> Option<usize>
+    ensures { IsExtent (taken answer_length s.now) s.now result }
 {
     fixed(s, LN, 1)
 }
@@ -55,9 +56,7 @@ pub fn event_at(events: &[u8], place: usize) -> Event
     requires { (1 ≤ place) × (2 * place ≤ length events.now) }
     ensures { result ≡ event_at (events_in events.now) place }
 {
-    let at = EVENT * (place - 1);
-    Event {
-        code: events[at],
-        argument: events[at + 1],
-    }
+    let (pairs, _) = events.as_chunks::<EVENT>();
+    let [code, argument] = pairs[place - 1];
+    Event { code, argument }
 }

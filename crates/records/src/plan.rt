@@ -1,7 +1,9 @@
 // LB, n, b, or LC, n, b, 1: the plan, by the rules of 2024 or of 2012.
-ghost use Rattle.std.specs.Prelude.{◌≡◌, ◌≤◌, length};
+ghost use Rattle.std.specs.Prelude.{◌≡◌, ◌≤◌, IsTrue, length};
 ghost use Rattle.forms.specs.Taken.{taken};
+ghost use Rattle.forms.specs.Whole.{whole};
 ghost use Rattle.records.specs.Plan.{plan};
+ghost use Rattle.records.specs.Sizes.{IsExtent, is_accepted};
 ghost use Rattle.records.specs.InBytes.{plan_at, plan_size};
 
 use super::form::stands;
@@ -26,19 +28,25 @@ const LB_SIZE: usize = 4;
 
 const LC_SIZE: usize = 5;
 
-// How many bytes the plan takes; 0 where it does not stand there, and for another last byte in LC.
-pub fn take_plan(s: &[u8]) -> usize
-    ensures { (result ≡ taken plan s.now) × (result ≤ length s.now) }
+// How many bytes the plan takes; None where it does not stand there, and for another last byte in LC.
+pub fn take_plan(s: &[u8]) -> Option<usize>
+    ensures { IsExtent (taken plan s.now) s.now result }
 {
     if stands(s, LB, 2) {
-        return LB_SIZE;
+        return Some(LB_SIZE);
     }
-    if stands(s, LC, 3) {
-        if s[4] == RULES_2012 {
-            return LC_SIZE;
-        }
+    if stands(s, LC, 3) && s[4] == RULES_2012 {
+        return Some(LC_SIZE);
     }
-    0
+    None
+}
+
+// Whether the bytes are the record of a plan and nothing after it.
+pub fn is_plan(bytes: &[u8]) -> bool
+    ensures value { result ≡ is_accepted (whole plan bytes.now) }
+    ensures long { IsTrue result → 4 ≤ length bytes.now }
+{
+    take_plan(bytes) == Some(bytes.len())
 }
 
 // The plan that a record says: its second letter says the edition.
@@ -49,7 +57,7 @@ pub fn plan_in(lb: &[u8]) -> Plan
     Plan {
         sections: lb[2],
         frontier: lb[3],
-        rules2012: lb[1] == b'C',
+        rules2012: lb[1] == LC.second,
     }
 }
 

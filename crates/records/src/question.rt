@@ -1,65 +1,40 @@
-// Where the records of a question lie: each after the one before it, and then the end.
-ghost use Rattle.std.specs.Prelude.{◌≡◌};
+// The records of a question, found in turn: each after the one before it, and then the end.
+ghost use Rattle.std.specs.Prelude.{◌≡◌, option_map};
 ghost use Rattle.forms.specs.Whole.{whole};
 ghost use Rattle.records.specs.Question.{question};
-ghost use Rattle.records.specs.Laid.{laid_in};
+ghost use Rattle.records.specs.Laid.{bytes_laid, laid_in};
 
+use super::form::HEAD;
 use super::lists::{take_events, take_length, take_readings};
 use super::plan::take_plan;
 use super::situation::take_situation;
 
-// Whether the bytes are the records of a question, and where SI or SJ, EV, RD and LN begin; else zeros.
-#[derive(Clone, Copy)]
-pub struct Laid {
-    pub there: bool,
-    pub si: usize,
-    pub ev: usize,
-    pub rd: usize,
-    pub ln: usize,
+// The bytes of the plan's record and of the situation's, those of the events and of the readings behind their count, and the length.
+#[derive(Clone, Copy, Debug, PartialEq, Eq)]
+pub struct Laid<'a> {
+    pub plan: &'a [u8],
+    pub situation: &'a [u8],
+    pub events: &'a [u8],
+    pub readings: &'a [u8],
+    pub length: u8,
 }
 
-const NOWHERE: Laid = Laid {
-    there: false,
-    si: 0,
-    ev: 0,
-    rd: 0,
-    ln: 0,
-};
-
-pub fn where_laid(bytes: &[u8]) -> Laid
-    ensures { result ≡ laid_in (whole question bytes.now) }
+// What lies in the bytes where they are the records of a question and nothing after them.
+pub fn where_laid(bytes: &[u8]) -> Option<Laid<'_>>
+    ensures { option_map bytes_laid result ≡ laid_in (whole question bytes.now) }
 {
-    let si = take_plan(bytes);
-    if si == 0 {
-        return NOWHERE;
+    let (plan, from_si) = bytes.split_at(take_plan(bytes)?);
+    let (situation, from_ev) = from_si.split_at(take_situation(from_si)?);
+    let (ev, from_rd) = from_ev.split_at(take_events(from_ev)?);
+    let (rd, ln) = from_rd.split_at(take_readings(from_rd)?);
+    if take_length(ln)? < ln.len() {
+        return None;
     }
-    let situation = take_situation(&bytes[si..]);
-    if situation == 0 {
-        return NOWHERE;
-    }
-    let ev = si + situation;
-    let events = take_events(&bytes[ev..]);
-    if events == 0 {
-        return NOWHERE;
-    }
-    let rd = ev + events;
-    let readings = take_readings(&bytes[rd..]);
-    if readings == 0 {
-        return NOWHERE;
-    }
-    let ln = rd + readings;
-    let length = take_length(&bytes[ln..]);
-    if length == 0 {
-        return NOWHERE;
-    }
-    if ln + length < bytes.len() {
-        return NOWHERE;
-    }
-    Laid {
-        there: true,
-        si,
-        ev,
-        rd,
-        ln,
-    }
+    Some(Laid {
+        plan,
+        situation,
+        events: &ev[HEAD..],
+        readings: &rd[HEAD..],
+        length: ln[2],
+    })
 }

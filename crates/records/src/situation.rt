@@ -1,7 +1,9 @@
 // SI, 19 bytes, or SJ, 21 bytes: the situation.
-ghost use Rattle.std.specs.Prelude.{◌≡◌, ◌≤◌, length};
+ghost use Rattle.std.specs.Prelude.{◌≡◌, ◌≤◌, IsTrue, length};
 ghost use Rattle.forms.specs.Taken.{taken};
+ghost use Rattle.forms.specs.Whole.{whole};
 ghost use Rattle.records.specs.Situation.{situation};
+ghost use Rattle.records.specs.Sizes.{IsExtent, is_accepted};
 
 use super::form::stands;
 use forms::Letters;
@@ -22,16 +24,22 @@ pub const SI_SIZE: usize = 21;
 pub const SJ_SIZE: usize = 23;
 
 // "SI means both zero": an SJ has a mark or a count.
-pub fn take_situation(s: &[u8]) -> usize
-    ensures { (result ≡ taken situation s.now) × (result ≤ length s.now) }
+pub fn take_situation(s: &[u8]) -> Option<usize>
+    ensures { IsExtent (taken situation s.now) s.now result }
 {
     if stands(s, SI, 19) {
-        return SI_SIZE;
+        return Some(SI_SIZE);
     }
-    if stands(s, SJ, 21) {
-        if (s[21] != 0) | (s[22] != 0) {
-            return SJ_SIZE;
-        }
+    if stands(s, SJ, 21) && ((s[21] != 0) | (s[22] != 0)) {
+        return Some(SJ_SIZE);
     }
-    0
+    None
+}
+
+// Whether the bytes are the record of a situation and nothing after it.
+pub fn is_situation(bytes: &[u8]) -> bool
+    ensures value { result ≡ is_accepted (whole situation bytes.now) }
+    ensures long { IsTrue result → 21 ≤ length bytes.now }
+{
+    take_situation(bytes) == Some(bytes.len())
 }

@@ -4,7 +4,7 @@
 
 ghost use Rattle.std.specs.Prelude.{◌≡◌, not, if◌then◌else◌};
 ghost use Rattle.words.specs.Words.{◌and◌};
-ghost use Rattle.refusals.specs.InOrder.{check};
+ghost use Rattle.block.specs.Refusals.{told};
 ghost use Rattle.rulebook.specs.Situation.{station, ◌is_in, ◌annulled, ◌has_exit_route, track_free};
 ghost use Rattle.rulebook.specs.Place.{held_in_area};
 ghost use Rattle.rulebook.specs.Table.{Sobb, Cobb, Afbli, Afble, Dafbl, Bilc, Dilc, Bslg, BslgOff, Bslb, BslbOff, Reminder, ReminderOff, ExitNormal, ExitSpecial, ExitReleased, Entry, EntryReleased, Occupied, Freed, LinkLost, LinkRestored, Second};
@@ -14,247 +14,222 @@ ghost use Rattle.situation.specs.Packed.{unpacked};
 
 use block::event::Spot;
 use block::line::{Name, Plan};
-use block::refused::{
-    ALREADY, ANNULLED, BILC, BSLB, BSLG, ENTRY_ROUTE, EXIT_ROUTE, LINK_DOWN, OCCUPIED, ORIENTED,
-    OTHER_ROUTE, PENDING, REMINDER,
-};
+use block::refused::{Refusal, refuse_if};
 use sections::has;
 use situation::Situation;
 
-// What the checks so far refuse stays refused; else n where this one fails.
-fn check(r: u8, n: u8, failed: bool) -> u8
-    ensures { result ≡ check r n failed }
-{
-    if r == 0 {
-        return refuse(n, failed, 0);
-    }
-    r
-}
-
-// The refusal n where the check fails, else what the later checks give.
-fn refuse(n: u8, failed: bool, rest: u8) -> u8
-    ensures { result ≡ (if failed then n else rest) }
-{
-    if failed {
-        return n;
-    }
-    rest
-}
-
-pub fn sobb_refusal(x: Situation, at: Spot) -> u8
-    ensures { result ≡ refuses Sobb at (unpacked x) }
+pub fn sobb_refusal(x: Situation, at: Spot) -> Result<(), Refusal>
+    ensures { told result ≡ refuses Sobb at (unpacked x) }
 {
     let own = x.own();
     let pending = x.asks() | x.other_asks();
     let routed = x.any_exit_route();
-    let r = check(0, ANNULLED, own.annulled());
-    let r = check(r, LINK_DOWN, !x.linked());
-    let r = check(r, PENDING, pending);
-    let r = check(r, EXIT_ROUTE, routed);
-    check(r, ORIENTED, own.is_out())
+    refuse_if(own.annulled(), Refusal::Annulled)?;
+    refuse_if(!x.linked(), Refusal::LinkDown)?;
+    refuse_if(pending, Refusal::Pending)?;
+    refuse_if(routed, Refusal::ExitRoute)?;
+    refuse_if(own.is_out(), Refusal::Oriented)
 }
 
-pub fn cobb_refusal(x: Situation, at: Spot) -> u8
-    ensures { result ≡ refuses Cobb at (unpacked x) }
+pub fn cobb_refusal(x: Situation, at: Spot) -> Result<(), Refusal>
+    ensures { told result ≡ refuses Cobb at (unpacked x) }
 {
     let own = x.own();
-    let r = check(0, ANNULLED, own.annulled());
-    let r = check(r, LINK_DOWN, !x.linked());
-    let r = check(r, PENDING, !x.other_asks());
-    check(r, EXIT_ROUTE, x.any_exit_route())
+    refuse_if(own.annulled(), Refusal::Annulled)?;
+    refuse_if(!x.linked(), Refusal::LinkDown)?;
+    refuse_if(!x.other_asks(), Refusal::Pending)?;
+    refuse_if(x.any_exit_route(), Refusal::ExitRoute)
 }
 
-pub fn afbli_refusal(x: Situation, at: Spot) -> u8
-    ensures { result ≡ refuses (kind_in_2024 Afbli) at (unpacked x) }
+pub fn afbli_refusal(x: Situation, at: Spot) -> Result<(), Refusal>
+    ensures { told result ≡ refuses (kind_in_2024 Afbli) at (unpacked x) }
 {
     let own = x.own();
-    let r = check(0, ANNULLED, own.annulled());
-    let r = check(r, PENDING, x.asks());
-    check(r, EXIT_ROUTE, own.routed())
+    refuse_if(own.annulled(), Refusal::Annulled)?;
+    refuse_if(x.asks(), Refusal::Pending)?;
+    refuse_if(own.routed(), Refusal::ExitRoute)
 }
 
-pub fn afble_refusal(x: Situation, at: Spot) -> u8
-    ensures { result ≡ refuses (kind_in_2024 Afble) at (unpacked x) }
+pub fn afble_refusal(x: Situation, at: Spot) -> Result<(), Refusal>
+    ensures { told result ≡ refuses (kind_in_2024 Afble) at (unpacked x) }
 {
     let own = x.own();
-    let r = afbli_refusal(x, at);
-    check(r, ENTRY_ROUTE, own.has_entry())
+    afbli_refusal(x, at)?;
+    refuse_if(own.has_entry(), Refusal::EntryRoute)
 }
 
-pub fn dafbl_refusal(x: Situation, at: Spot) -> u8
-    ensures { result ≡ refuses Dafbl at (unpacked x) }
+pub fn dafbl_refusal(x: Situation, at: Spot) -> Result<(), Refusal>
+    ensures { told result ≡ refuses Dafbl at (unpacked x) }
 {
     let own = x.own();
-    refuse(ALREADY, !own.annulled(), 0)
+    refuse_if(!own.annulled(), Refusal::Already)
 }
 
-pub fn bilc_refusal(x: Situation, at: Spot) -> u8
-    ensures { result ≡ refuses (kind_in_2024 Bilc) at (unpacked x) }
+pub fn bilc_refusal(x: Situation, at: Spot) -> Result<(), Refusal>
+    ensures { told result ≡ refuses (kind_in_2024 Bilc) at (unpacked x) }
 {
     let own = x.own();
-    let r = check(0, ALREADY, own.has_bilc());
-    check(r, EXIT_ROUTE, own.routed())
+    refuse_if(own.has_bilc(), Refusal::Already)?;
+    refuse_if(own.routed(), Refusal::ExitRoute)
 }
 
-pub fn dilc_refusal(x: Situation, at: Spot) -> u8
-    ensures { result ≡ refuses Dilc at (unpacked x) }
+pub fn dilc_refusal(x: Situation, at: Spot) -> Result<(), Refusal>
+    ensures { told result ≡ refuses Dilc at (unpacked x) }
 {
     let own = x.own();
-    refuse(ALREADY, !own.has_bilc(), 0)
+    refuse_if(!own.has_bilc(), Refusal::Already)
 }
 
-pub fn bslg_refusal(x: Situation, at: Spot) -> u8
-    ensures { result ≡ refuses Bslg at (unpacked x) }
+pub fn bslg_refusal(x: Situation, at: Spot) -> Result<(), Refusal>
+    ensures { told result ≡ refuses Bslg at (unpacked x) }
 {
     let own = x.own();
-    let r = check(0, ALREADY, own.has_bslg());
-    check(r, ANNULLED, own.annulled())
+    refuse_if(own.has_bslg(), Refusal::Already)?;
+    refuse_if(own.annulled(), Refusal::Annulled)
 }
 
-pub fn bslg_off_refusal(x: Situation, at: Spot) -> u8
-    ensures { result ≡ refuses BslgOff at (unpacked x) }
+pub fn bslg_off_refusal(x: Situation, at: Spot) -> Result<(), Refusal>
+    ensures { told result ≡ refuses BslgOff at (unpacked x) }
 {
     let own = x.own();
-    refuse(ALREADY, !own.has_bslg(), 0)
+    refuse_if(!own.has_bslg(), Refusal::Already)
 }
 
-pub fn bslb_refusal(x: Situation, at: Spot) -> u8
-    ensures { result ≡ refuses (kind_in_2024 Bslb) at (unpacked x) }
+pub fn bslb_refusal(x: Situation, at: Spot) -> Result<(), Refusal>
+    ensures { told result ≡ refuses (kind_in_2024 Bslb) at (unpacked x) }
 {
     let d = at.direction;
-    refuse(ALREADY, has(x.held(d), at.section as u16), 0)
+    refuse_if(has(x.held(d), at.section as u16), Refusal::Already)
 }
 
-pub fn bslb_off_refusal(x: Situation, at: Spot) -> u8
-    ensures { result ≡ refuses BslbOff at (unpacked x) }
+pub fn bslb_off_refusal(x: Situation, at: Spot) -> Result<(), Refusal>
+    ensures { told result ≡ refuses BslbOff at (unpacked x) }
 {
     let d = at.direction;
-    refuse(ALREADY, !has(x.held(d), at.section as u16), 0)
+    refuse_if(!has(x.held(d), at.section as u16), Refusal::Already)
 }
 
-pub fn reminder_refusal(x: Situation, at: Spot) -> u8
-    ensures { result ≡ refuses Reminder at (unpacked x) }
+pub fn reminder_refusal(x: Situation, at: Spot) -> Result<(), Refusal>
+    ensures { told result ≡ refuses Reminder at (unpacked x) }
 {
     let own = x.own();
-    refuse(ALREADY, own.has_reminder(), 0)
+    refuse_if(own.has_reminder(), Refusal::Already)
 }
 
-pub fn reminder_off_refusal(x: Situation, at: Spot) -> u8
-    ensures { result ≡ refuses ReminderOff at (unpacked x) }
+pub fn reminder_off_refusal(x: Situation, at: Spot) -> Result<(), Refusal>
+    ensures { told result ≡ refuses ReminderOff at (unpacked x) }
 {
     let own = x.own();
-    refuse(ALREADY, !own.has_reminder(), 0)
+    refuse_if(!own.has_reminder(), Refusal::Already)
 }
 
 // Own is in and the line not free: 13 for an occupied section or a running count, then 15 for an exit route at the other station.
-fn check_line(r: u8, x: Situation) -> u8
-    ensures { result ≡ check (check r 13 ((unpacked x).traffic.own is_in and not (track_free (unpacked x).traffic.track))) 15 ((unpacked x).traffic.own is_in and (unpacked x).traffic.other has_exit_route) }
+fn check_line(x: Situation) -> Result<(), Refusal>
+    ensures { told result ≡ (if (unpacked x).traffic.own is_in and not (track_free (unpacked x).traffic.track) then 13 else if (unpacked x).traffic.own is_in and (unpacked x).traffic.other has_exit_route then 15 else 0) }
 {
     let own = x.own();
     let other = x.other();
     let inward = own.is_in();
-    let not_free = inward & !x.track_free();
-    let routed = inward & other.routed();
-    let r = check(r, OCCUPIED, not_free);
-    check(r, OTHER_ROUTE, routed)
+    refuse_if(inward & !x.track_free(), Refusal::Occupied)?;
+    refuse_if(inward & other.routed(), Refusal::OtherRoute)
 }
 
-pub fn exit_normal_refusal(x: Situation, at: Spot) -> u8
-    ensures { result ≡ refuses ExitNormal at (unpacked x) }
+pub fn exit_normal_refusal(x: Situation, at: Spot) -> Result<(), Refusal>
+    ensures { told result ≡ refuses ExitNormal at (unpacked x) }
 {
     let own = x.own();
     let none = !(own.is_out() | own.is_in());
-    let r = check(0, ALREADY, own.routed());
-    let r = check(r, BILC, own.has_bilc());
-    let r = check(r, ANNULLED, own.annulled());
-    let r = check(r, REMINDER, own.has_reminder());
-    let r = check(r, LINK_DOWN, !x.linked());
-    let r = check(r, ORIENTED, none);
-    check_line(r, x)
+    refuse_if(own.routed(), Refusal::Already)?;
+    refuse_if(own.has_bilc(), Refusal::Bilc)?;
+    refuse_if(own.annulled(), Refusal::Annulled)?;
+    refuse_if(own.has_reminder(), Refusal::Reminder)?;
+    refuse_if(!x.linked(), Refusal::LinkDown)?;
+    refuse_if(none, Refusal::Oriented)?;
+    check_line(x)
 }
 
-pub fn exit_special_refusal(x: Situation, at: Spot) -> u8
-    ensures { result ≡ refuses ExitSpecial at (unpacked x) }
+pub fn exit_special_refusal(x: Situation, at: Spot) -> Result<(), Refusal>
+    ensures { told result ≡ refuses ExitSpecial at (unpacked x) }
 {
     let own = x.own();
     let none = !(own.is_out() | own.is_in());
-    let r = check(0, ALREADY, own.routed());
-    let r = check(r, BILC, own.has_bilc());
+    refuse_if(own.routed(), Refusal::Already)?;
+    refuse_if(own.has_bilc(), Refusal::Bilc)?;
     if own.under_afble() {
-        return r;
+        return Ok(());
     }
-    let r = check(r, ANNULLED, own.annulled());
-    let r = check(r, LINK_DOWN, !x.linked());
-    let r = check(r, ORIENTED, none);
-    check_line(r, x)
+    refuse_if(own.annulled(), Refusal::Annulled)?;
+    refuse_if(!x.linked(), Refusal::LinkDown)?;
+    refuse_if(none, Refusal::Oriented)?;
+    check_line(x)
 }
 
-pub fn exit_released_refusal(x: Situation, at: Spot) -> u8
-    ensures { result ≡ refuses ExitReleased at (unpacked x) }
+pub fn exit_released_refusal(x: Situation, at: Spot) -> Result<(), Refusal>
+    ensures { told result ≡ refuses ExitReleased at (unpacked x) }
 {
     let own = x.own();
-    refuse(ALREADY, !own.routed(), 0)
+    refuse_if(!own.routed(), Refusal::Already)
 }
 
-pub fn entry_refusal(x: Situation, at: Spot) -> u8
-    ensures { result ≡ refuses Entry at (unpacked x) }
+pub fn entry_refusal(x: Situation, at: Spot) -> Result<(), Refusal>
+    ensures { told result ≡ refuses Entry at (unpacked x) }
 {
     let own = x.own();
-    refuse(ALREADY, own.has_entry(), 0)
+    refuse_if(own.has_entry(), Refusal::Already)
 }
 
-pub fn entry_released_refusal(x: Situation, at: Spot) -> u8
-    ensures { result ≡ refuses EntryReleased at (unpacked x) }
+pub fn entry_released_refusal(x: Situation, at: Spot) -> Result<(), Refusal>
+    ensures { told result ≡ refuses EntryReleased at (unpacked x) }
 {
     let own = x.own();
-    refuse(ALREADY, !own.has_entry(), 0)
+    refuse_if(!own.has_entry(), Refusal::Already)
 }
 
-pub fn occupied_refusal(x: Situation, at: Spot) -> u8
-    ensures { result ≡ refuses Occupied at (unpacked x) }
+pub fn occupied_refusal(x: Situation, at: Spot) -> Result<(), Refusal>
+    ensures { told result ≡ refuses Occupied at (unpacked x) }
 {
-    refuse(ALREADY, has(x.occupied, at.section as u16), 0)
+    refuse_if(has(x.occupied, at.section as u16), Refusal::Already)
 }
 
-pub fn freed_refusal(x: Situation, at: Spot) -> u8
-    ensures { result ≡ refuses Freed at (unpacked x) }
+pub fn freed_refusal(x: Situation, at: Spot) -> Result<(), Refusal>
+    ensures { told result ≡ refuses Freed at (unpacked x) }
 {
-    refuse(ALREADY, !has(x.occupied, at.section as u16), 0)
+    refuse_if(!has(x.occupied, at.section as u16), Refusal::Already)
 }
 
-pub fn link_lost_refusal(x: Situation, at: Spot) -> u8
-    ensures { result ≡ refuses LinkLost at (unpacked x) }
+pub fn link_lost_refusal(x: Situation, at: Spot) -> Result<(), Refusal>
+    ensures { told result ≡ refuses LinkLost at (unpacked x) }
 {
-    refuse(ALREADY, !x.linked(), 0)
+    refuse_if(!x.linked(), Refusal::Already)
 }
 
-pub fn link_restored_refusal(x: Situation, at: Spot) -> u8
-    ensures { result ≡ refuses LinkRestored at (unpacked x) }
+pub fn link_restored_refusal(x: Situation, at: Spot) -> Result<(), Refusal>
+    ensures { told result ≡ refuses LinkRestored at (unpacked x) }
 {
-    refuse(ALREADY, x.linked(), 0)
+    refuse_if(x.linked(), Refusal::Already)
 }
 
 // A second is always accepted.
-pub fn second_refusal(x: Situation, at: Spot) -> u8
-    ensures { result ≡ refuses Second at (unpacked x) }
+pub fn second_refusal(x: Situation, at: Spot) -> Result<(), Refusal>
+    ensures { told result ≡ refuses Second at (unpacked x) }
 {
-    0
+    Ok(())
 }
 
 // (02, Req 05) "2012 only: for AFBLI and AFBLE after all checks in 01, 11 BILC, 16 BSLG, 17 BSLB, in that order", at the station s.
-pub fn excluded_refusal(plan: Plan, x: Situation, s: Name) -> u8
-    ensures { result ≡ (if (station (unpacked x) s).bilc then 11 else if (station (unpacked x) s).bslg then 16 else if held_in_area plan s (unpacked x) then 17 else 0) }
+pub fn excluded_refusal(plan: Plan, x: Situation, s: Name) -> Result<(), Refusal>
+    ensures { told result ≡ (if (station (unpacked x) s).bilc then 11 else if (station (unpacked x) s).bslg then 16 else if held_in_area plan s (unpacked x) then 17 else 0) }
 {
     let own = x.station(s);
-    let held = refuse(BSLB, x.held_in_area(plan, s), 0);
-    let guarded = refuse(BSLG, own.has_bslg(), held);
-    refuse(BILC, own.has_bilc(), guarded)
+    refuse_if(own.has_bilc(), Refusal::Bilc)?;
+    refuse_if(own.has_bslg(), Refusal::Bslg)?;
+    refuse_if(x.held_in_area(plan, s), Refusal::Bslb)
 }
 
 // "2012 only: .. for BILC and BSLB, 8 own annulled, after all else", own being the station s.
-pub fn annulled_refusal(x: Situation, s: Name) -> u8
-    ensures { result ≡ (if station (unpacked x) s annulled then 8 else 0) }
+pub fn annulled_refusal(x: Situation, s: Name) -> Result<(), Refusal>
+    ensures { told result ≡ (if station (unpacked x) s annulled then 8 else 0) }
 {
     let own = x.station(s);
-    refuse(ANNULLED, own.annulled(), 0)
+    refuse_if(own.annulled(), Refusal::Annulled)
 }

@@ -1,12 +1,11 @@
 -- All readings hold exactly in the situations that are what they ask put together, where from the first aspect on the aspects hold.
 -- Assumes nothing.
 use Rattle.std.specs.Prelude.{if◌then◌else◌}
-use Prim.Native.Nat.{ℕ, ◌/◌, ◌^◌, suc, ◌-◌, ◌≤◌}
+use Prim.Native.Nat.{ℕ, max, ◌/◌, ◌^◌, suc, ◌-◌, ◌≤◌}
 use mathlib.Core.Path.{◌≡◌, refl, sym, ap, ◌∙◌}
 use mathlib.Core.Bool.{Bool, true, false}
 use mathlib.Core.List.{List, [], ◌∷◌}
 use native.Mathlib.Omega.{arith}
-use borrow.Author.Tests.{ne_eqb}
 use lib.Dec.{eqb}
 use lib.ListN.{length, drop}
 use Rattle.words.specs.Words.{◌and◌}
@@ -138,30 +137,31 @@ codes_aspects arg codes w = go (eqb arg 1)
     go true = refl
     go false = refl
 
-reading_aspects : (w : Wanted) (kind arg value left : ℕ) → (with_reading kind arg value left w).aspects ≡ (if eqb kind 1 then (if eqb w.aspects 0 then left else w.aspects) else w.aspects)
+reading_aspects : (w : Wanted) (kind arg value left : ℕ) → (with_reading kind arg value left w).aspects ≡ (if eqb kind 1 then max w.aspects left else w.aspects)
 reading_aspects w kind arg value left = go (eqb kind 1) (of_station kind)
   where
     go : (one station : Bool)
         → (if one then with_aspect left w else if station then with_codes arg (codes_where kind value) w else with_line (where_line value) w).aspects
-        ≡ (if one then (if eqb w.aspects 0 then left else w.aspects) else w.aspects)
+        ≡ (if one then max w.aspects left else w.aspects)
     go true station = refl
     go false true = codes_aspects arg (codes_where kind value) w
     go false false = refl
 
-aspects_kept : (w : Wanted) (t : List ℕ) → eqb w.aspects 0 ≡ false → (with_readings w t).aspects ≡ w.aspects
+aspects_kept : (w : Wanted) (t : List ℕ) → length t ≤ w.aspects → (with_readings w t).aspects ≡ w.aspects
 unfolding with_readings
 aspects_kept w [] h = refl
 aspects_kept w (kind ∷ []) h = refl
 aspects_kept w (kind ∷ arg ∷ []) h = refl
 aspects_kept w (kind ∷ arg ∷ value ∷ t) h =
     let v = with_reading kind arg value (length (kind ∷ arg ∷ value ∷ t)) w in
-    let same : v.aspects ≡ w.aspects = reading_aspects w kind arg value _ ∙ rw h (either_way (eqb kind 1) w.aspects) in
-    aspects_kept v t (ap (λ (n : ℕ). eqb n 0) same ∙ h) ∙ same
+    let most : max w.aspects (length (kind ∷ arg ∷ value ∷ t)) ≡ w.aspects = omega arith in
+    let same : v.aspects ≡ w.aspects = reading_aspects w kind arg value _ ∙ rw most (either_way (eqb kind 1) w.aspects) in
+    aspects_kept v t (omega arith) ∙ same
 
--- from there on the aspects are all that there are; 0 says that there are none
+-- from there on the aspects are all that there are
 module _ (p : Plan) (y : Situation) where
   abbrev from_first : List ℕ → ℕ → Bool
-  from_first t n = if eqb n 0 then true else aspects_hold p (readings_in (drop (length t - n) t)) y
+  from_first t n = aspects_hold p (readings_in (drop (length t - n) t)) y
 
   aspects_from : (w : Wanted) (t : List ℕ) → w.aspects ≡ 0 → ((with_readings w t).aspects ≤ length t) × (aspects_hold p (readings_in t) y ≡ from_first t (with_readings w t).aspects)
   unfolding with_readings aspects_hold readings_in
@@ -181,10 +181,11 @@ module _ (p : Plan) (y : Situation) where
 
       go : (one : Bool) → eqb kind 1 ≡ one → (v.aspects ≡ 0 → ((with_readings v t).aspects ≤ length t) × (aspects_hold p (readings_in t) y ≡ from_first t (with_readings v t).aspects)) → Result
       go true e rest =
-          let all : v.aspects ≡ length whole = reading_aspects w kind arg value (length whole) ∙ rw (e, h) refl in
-          let n : (with_readings v t).aspects ≡ length whole = aspects_kept v t (ne_eqb v.aspects 0 (λ z. omega arith)) ∙ all in
+          let most : max w.aspects (length whole) ≡ length whole = omega arith in
+          let all : v.aspects ≡ length whole = reading_aspects w kind arg value (length whole) ∙ rw (e, most) refl in
+          let n : (with_readings v t).aspects ≡ length whole = aspects_kept v t (omega arith) ∙ all in
           let none_left : length whole - length whole ≡ 0 = omega arith in
-          rw n (omega arith, rw (ne_eqb (length whole) 0 (λ z. omega arith), none_left) refl)
+          rw n (omega arith, rw none_left refl)
       go false e rest =
           let ih = rest (reading_aspects w kind arg value (length whole) ∙ rw e h) in
           let n = (with_readings v t).aspects in
@@ -193,7 +194,7 @@ module _ (p : Plan) (y : Situation) where
             omega (arith, ih.0),
             ap (λ (b : Bool). b and aspects_hold p (readings_in t) y) kind-is
                 ∙ ih.1
-                ∙ ap (λ (j : ℕ). if eqb n 0 then true else aspects_hold p (readings_in (drop j whole)) y) (sym on),
+                ∙ ap (λ (j : ℕ). aspects_hold p (readings_in (drop j whole)) y) (sym on),
           )
 
   pub aspects_within : (w : Wanted) (t : List ℕ) → w ≡ wanted_of t → w.aspects ≤ length t

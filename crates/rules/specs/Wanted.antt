@@ -1,6 +1,6 @@
 -- Nothing here has to be believed: what the readings of a question ask, put together before any situation is tried, from their bytes. That all
 -- readings hold exactly where it is met is proved.
-use Rattle.std.specs.Prelude.{ℕ, ◌≡◌, Bool, true, List, [], ◌∷◌, length, eqb, if◌then◌else◌}
+use Rattle.std.specs.Prelude.{ℕ, max, ◌≡◌, Bool, true, List, [], ◌∷◌, length, eqb, if◌then◌else◌}
 use Rattle.words.specs.Words.{◌and◌}
 use Rattle.sections.specs.Sections.{none, ◌belongs_to◌}
 use Rattle.sections.specs.Sets.{both}
@@ -38,7 +38,7 @@ with_line values w = record { own = w.own; other = w.other; line = both w.line v
 
 -- the first aspect's reading, and how many bytes there are from it on
 abbrev pub with_aspect : ℕ → Wanted → Wanted
-with_aspect left w = record { own = w.own; other = w.other; line = w.line; aspects = if eqb w.aspects 0 then left else w.aspects }
+with_aspect left w = record { own = w.own; other = w.other; line = w.line; aspects = max w.aspects left }
 
 -- a reading more, the first of so many bytes
 abbrev pub with_reading : ℕ → ℕ → ℕ → ℕ → Wanted → Wanted

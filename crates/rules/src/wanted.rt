@@ -7,17 +7,19 @@ ghost use Rattle.records.specs.InBytes.{readings_in};
 ghost use Rattle.rules.specs.RulesOf.{all_hold};
 ghost use Rattle.rules.specs.Wanted.{where_line, with_codes, with_line, with_aspect, with_reading, wanted_of, Asked, as_wanted, aspects_hold};
 
-use block::line::Plan;
+use block::line::{Name, Plan, station_named};
+use block::reading::Reading;
 use records::lists::READING;
 use sections::{both, has};
 use signals::lights::aspect_of;
-use signals::readings::{ASPECT, codes_where, line_read, of_station};
+use signals::readings::{Kind, line_read};
 use situation::Situation;
 use situation::codes::for_value;
 
 // A set for each station: the codes of orientation, annulment and exit route, as one number, that the readings allow.
-// The line's: 0 if it may be free, 1 if it may not. How many bytes of readings there are from the first aspect on, 0 if there is none.
-#[derive(Clone, Copy)]
+// The line's: 0 if it may be free, 1 if it may not. How many bytes of readings there are from the first aspect on.
+// That is a number and not those bytes: what is asked is compared as a whole value, and a slice has its address too.
+#[derive(Clone, Copy, Debug, PartialEq, Eq)]
 pub struct Wanted {
     pub own: u64,
     pub other: u64,
@@ -26,13 +28,14 @@ pub struct Wanted {
 }
 
 const ANYTHING: Wanted = Wanted {
-    own: 0xFFFFFFFFFFFFFFFF,
-    other: 0xFFFFFFFFFFFFFFFF,
+    own: u64::MAX,
+    other: u64::MAX,
     line: 3,
     aspects: 0,
 };
 
 // The line: 0 free, 1 not; no other value.
+#[tactic(auto, unfolding(crate::specs::Wanted::where_line))]
 fn where_line(value: u8) -> u64
     ensures { result ≡ where_line value }
 {
@@ -41,44 +44,59 @@ fn where_line(value: u8) -> u64
 
 impl Wanted {
     // Argument station: 0 A, 1 B.
-    fn with_codes(mut self, arg: u8, codes: u64) -> Wanted
+    fn with_codes(self, arg: u8, codes: u64) -> Wanted
         ensures { result ≡ with_codes arg codes self }
     {
-        if arg == 1 {
-            self.other = both(self.other, codes);
-            return self;
+        match station_named(arg) {
+            Name::StationA => Wanted {
+                own: both(self.own, codes),
+                ..self
+            },
+            Name::StationB => Wanted {
+                other: both(self.other, codes),
+                ..self
+            },
         }
-        self.own = both(self.own, codes);
-        self
     }
 
-    fn with_line(mut self, values: u64) -> Wanted
+    fn with_line(self, values: u64) -> Wanted
         ensures { result ≡ with_line values self }
     {
-        self.line = both(self.line, values);
-        self
+        Wanted {
+            line: both(self.line, values),
+            ..self
+        }
     }
 
-    fn with_aspect(mut self, left: usize) -> Wanted
+    fn with_aspect(self, left: usize) -> Wanted
         ensures { result ≡ with_aspect left self }
     {
-        if self.aspects == 0 {
-            self.aspects = left;
+        Wanted {
+            aspects: self.aspects.max(left),
+            ..self
         }
-        self
     }
 
-    // A reading more, the first of so many bytes.
-    fn with_reading(self, kind: u8, arg: u8, value: u8, left: usize) -> Wanted
-        ensures { result ≡ with_reading kind arg value left self }
+    // A reading more, the first of so many bytes. A number that is no kind reads the line.
+    fn with_reading(self, reading: Reading, left: usize) -> Wanted
+        ensures { result ≡ with_reading reading.kind reading.argument reading.value left self }
     {
-        if kind == ASPECT {
-            return self.with_aspect(left);
+        let arg = reading.argument;
+        let value = reading.value;
+        match Kind::try_from(reading.kind) {
+            Ok(Kind::Aspect) => self.with_aspect(left),
+            Ok(Kind::Station(code)) => self.with_codes(arg, code.codes_where(value)),
+            Ok(Kind::Line) | Err(_) => self.with_line(where_line(value)),
         }
-        if of_station(kind) {
-            return self.with_codes(arg, codes_where(kind, value));
-        }
-        self.with_line(where_line(value))
+    }
+
+    // Whether a situation is what is asked, but for the aspects.
+    fn allows(self, x: Situation) -> bool
+        ensures { result ≡ as_wanted self x }
+    {
+        has(self.own, x.own_codes())
+            && has(self.other, x.other_codes())
+            && has(self.line, u16::from(line_read(x)))
     }
 }
 
@@ -86,39 +104,27 @@ pub fn wanted_of(readings: &[u8]) -> Wanted
     ensures { result ≡ wanted_of readings.now }
 {
     let mut w = ANYTHING;
-    let mut rest = readings;
-    while READING <= rest.len() {
-        w = w.with_reading(rest[0], rest[1], rest[2], rest.len());
-        rest = &rest[READING..];
+    for (i, bytes) in readings.chunks_exact(READING).enumerate() {
+        let reading = Reading {
+            kind: bytes[0],
+            argument: bytes[1],
+            value: bytes[2],
+        };
+        w = w.with_reading(reading, readings.len() - READING * i);
     }
     w
-}
-
-fn as_wanted(w: Wanted, x: Situation) -> bool
-    ensures { result ≡ as_wanted w x }
-{
-    if !has(w.own, x.own_codes()) {
-        return false;
-    }
-    if !has(w.other, x.other_codes()) {
-        return false;
-    }
-    let line = line_read(x);
-    has(w.line, line as u16)
 }
 
 fn aspects_hold(plan: Plan, x: Situation, readings: &[u8]) -> bool
     requires { is_plan plan ≡ true }
     ensures { result ≡ aspects_hold plan (readings_in readings.now) (unpacked x) }
 {
-    let mut rest = readings;
-    while READING <= rest.len() {
-        if rest[0] == ASPECT {
-            if aspect_of(plan, x, rest[1]) != rest[2] {
-                return false;
-            }
+    for reading in readings.chunks_exact(READING) {
+        if reading[0] == u8::from(Kind::Aspect)
+            && u8::from(aspect_of(plan, x, reading[1])) != reading[2]
+        {
+            return false;
         }
-        rest = &rest[READING..];
     }
     true
 }
@@ -128,13 +134,9 @@ pub fn all_hold(plan: Plan, w: Wanted, x: Situation, readings: &[u8]) -> bool
     requires { Asked plan w readings.now }
     ensures { result ≡ all_hold plan (readings_in readings.now) (unpacked x) }
 {
-    if !as_wanted(w, x) {
+    if !w.allows(x) {
         return false;
     }
-    let aspects = w.aspects;
-    if aspects == 0 {
-        return true;
-    }
-    let from = readings.len() - aspects;
+    let from = readings.len() - w.aspects;
     aspects_hold(plan, x, &readings[from..])
 }

@@ -1,10 +1,11 @@
 -- What sets of a station's codes tell is what the readings are.
-use Rattle.std.specs.Prelude.{if◌then◌else◌}
+use Rattle.std.specs.Prelude.{if◌then◌else◌, Ok, Err}
 use Prim.Native.Nat.{ℕ, zero, suc, ◌/◌, ◌^◌, ◌%◌, ◌<◌}
 use mathlib.Core.Path.{◌≡◌, refl, sym, ap, ◌∙◌}
 use mathlib.Core.Bool.{Bool, true, false, false≢true}
 use native.Mathlib.Omega.{arith}
 use lib.Dec.{eqb}
+use borrow.Author.Tests.{ne_eqb, le-leb, lt-leb}
 use Rattle.words.specs.Words.{◌or◌}
 use Rattle.sections.specs.Sections.{◌belongs_to◌}
 use Rattle.block.specs.Line.{station_named}
@@ -17,8 +18,13 @@ use Rattle.situation.specs.CodeSets.{own_codes, other_codes, where_orientation, 
 use Rattle.situation.specs.declared.Situation.{Situation as Packed}
 use Rattle.situation.proofs.Exchanged.{others_flags}
 use Rattle.situation.proofs.CodeSets.{in_orientation, in_annulment, in_exit, code_below}
-use Rattle.signals.specs.Readings.{line_read, value_read}
-use Rattle.signals.specs.CodesRead.{of_station, codes_of, codes_where, code_read}
+use Rattle.signals.specs.Readings.{can_be_read, line_read, value_read}
+use Rattle.signals.specs.CodesRead.{code_number, kind_number, kind_numbered, of_station, codes_of, codes_where, code_read}
+use Rattle.signals.specs.declared.readings.Code.{Code}
+use Rattle.signals.specs.declared.readings.Code.TheVariants.{Orientation, Annulment, ExitRoute}
+use Rattle.signals.specs.declared.readings.Kind.{Kind}
+use Rattle.block.specs.declared.refused.Refusal.{Refusal}
+use Rattle.block.specs.declared.refused.Refusal.TheVariants.{OutOfRange}
 
 module _ (x : Packed) (arg : ℕ) where
   -- a code of the station named, which the sets tell
@@ -70,6 +76,12 @@ module _ (x : Packed) (arg : ℕ) where
         three (suc (suc zero)) l = refl
         three (suc (suc (suc n))) l = absurd (omega arith)
 
+-- each code of a station is a kind whose argument is a station
+pub station_read : (x : Packed) (arg : ℕ) (p : Plan) (code : Code) → code_read (code_number code) (codes_of arg x) ≡ value_read p (unpacked x) (code_number code) arg
+station_read x arg p Orientation = read_is x arg p 2 refl refl
+station_read x arg p Annulment = read_is x arg p 3 refl refl
+station_read x arg p ExitRoute = read_is x arg p 4 refl refl
+
 -- every other kind reads the line
 pub line_is : (p : Plan) (x : Kept) (kind arg : ℕ) → eqb kind 1 ≡ false → of_station kind ≡ false → line_read x ≡ value_read p x kind arg
 unfolding value_read
@@ -85,3 +97,32 @@ line_is p x kind arg other h = rw other (go (eqb kind 2) (eqb kind 3) (eqb kind 
     go false true four e = absurd (false≢true (sym e))
     go false false true e = absurd (false≢true (sym e))
     go false false false e = refl
+
+-- ---- the kinds' numbers
+pub kind_is : (n : ℕ) (kind : Kind) → Ok kind ≡ kind_numbered n → kind_number kind ≡ n
+kind_is zero kind e = cc
+kind_is (suc zero) kind e = cc
+kind_is (suc (suc zero)) kind e = cc
+kind_is (suc (suc (suc zero))) kind e = cc
+kind_is (suc (suc (suc (suc zero)))) kind e = cc
+kind_is (suc (suc (suc (suc (suc zero))))) kind e = cc
+kind_is (suc (suc (suc (suc (suc (suc n)))))) kind e =
+    let m : ℕ = suc (suc (suc (suc (suc (suc n))))) in
+    let above : (k : ℕ) → k < 6 → eqb m k ≡ false = λ k l. ne_eqb m k (λ h. omega arith) in
+    let none : Ok kind ≡ Err OutOfRange = rw (above 1 (omega arith), above 2 (omega arith), above 3 (omega arith), above 4 (omega arith), above 5 (omega arith)) at e in
+    cc
+
+pub no_kind : (p : Plan) (n arg : ℕ) (refusal : Refusal) → Err refusal ≡ kind_numbered n → (refusal ≡ OutOfRange) × (can_be_read p n arg ≡ false)
+no_kind p zero arg refusal e = (cc, refl)
+no_kind p (suc zero) arg refusal e = cc
+no_kind p (suc (suc zero)) arg refusal e = cc
+no_kind p (suc (suc (suc zero))) arg refusal e = cc
+no_kind p (suc (suc (suc (suc zero)))) arg refusal e = cc
+no_kind p (suc (suc (suc (suc (suc zero))))) arg refusal e = cc
+no_kind p (suc (suc (suc (suc (suc (suc n)))))) arg refusal e =
+    let m : ℕ = suc (suc (suc (suc (suc (suc n))))) in
+    let above : (k : ℕ) → k < 6 → eqb m k ≡ false = λ k l. ne_eqb m k (λ h. omega arith) in
+    let none : Err refusal ≡ Err OutOfRange = rw (above 1 (omega arith), above 2 (omega arith), above 3 (omega arith), above 4 (omega arith), above 5 (omega arith)) at e in (
+      cc,
+      rw (above 1 (omega arith), above 5 (omega arith), le-leb 2 m (omega arith), lt-leb m 4 (omega arith)),
+    )

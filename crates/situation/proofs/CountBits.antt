@@ -1,13 +1,20 @@
 -- The four bits of the count, read and written. Assumes nothing.
 use Prim.Native.Nat.{ℕ, zero, suc, ◌+◌, ◌*◌, ◌/◌, ◌%◌, ◌^◌, ◌<◌}
-use mathlib.Core.Bool.{Bool, true, false, not}
-use mathlib.Core.Path.{◌≡◌, refl, sym, ap, ◌∙◌}
+use mathlib.Core.Bool.{Bool, true, false}
+use Rattle.std.specs.Prelude.{if◌then◌else◌}
+use mathlib.Core.Path.{◌≡◌, refl, sym, ap, fun_ext, ◌∙◌}
 use native.Mathlib.Nat.{mod-lt}
+use native.Mathlib.Decide.{dec_lt}
+use borrow.Author.Tests.{lt-ltb, le-ltb}
 use native.Mathlib.Omega.{arith}
-use lib.Dec.{eqb}
-use lib.Pow.{pow_pos, shr-shr}
-use Rattle.words.specs.Words.{◌or◌, flag}
-use Rattle.situation.specs.Packed.{Flags, flags_of, count_from}
+use lib.Dec.{eqb, ltb}
+use lib.Pow.{pow_pos, shr-shr, high, low}
+use Rattle.words.specs.Words.{flag}
+use Rattle.sections.proofs.SetsOfSets.{low_bit}
+use Rattle.rulebook.specs.Situation.{with_track, with_this_watch}
+use Rattle.situation.specs.Packed.{Flags, flags_of, count_from, with_flags, unpacked}
+use Rattle.situation.specs.declared.Situation.{Situation as Packed}
+use Rattle.situation.proofs.FlagLaws.{at_flags}
 
 bit_flag : (n : ℕ) → n < 2 → flag (eqb n 1) ≡ n
 bit_flag zero h = refl
@@ -73,21 +80,32 @@ bits_same j f g e =
     let c = lowest_same (f (j + 2)) (g (j + 2)) _ _ b.1 in
     (a.0, (b.0, (c.0, last_same (f (j + 3)) (g (j + 3)) c.1)))
 
--- ---- a number is not 0 where one of its bits is set
-pub some_bit : (a b c d : Bool) → not (eqb (flag a + 2 * (flag b + 2 * (flag c + 2 * flag d))) 0) ≡ (a or b or c or d)
-some_bit true true true true = refl
-some_bit true true true false = refl
-some_bit true true false true = refl
-some_bit true true false false = refl
-some_bit true false true true = refl
-some_bit true false true false = refl
-some_bit true false false true = refl
-some_bit true false false false = refl
-some_bit false true true true = refl
-some_bit false true true false = refl
-some_bit false true false true = refl
-some_bit false true false false = refl
-some_bit false false true true = refl
-some_bit false false true false = refl
-some_bit false false false true = refl
-some_bit false false false false = refl
+-- ---- a word with another count: what stands below the count is the same, and the count is the one that is written
+as_below : (w r j : ℕ) → j < 34 → r % 2 ^ 34 ≡ w % 2 ^ 34 → flags_of r j ≡ flags_of w j
+as_below w r j h e = ap (λ (n : ℕ). eqb n 1) (sym (low_bit r 34 j h) ∙ ap (λ (n : ℕ). n / 2 ^ j % 2) e ∙ low_bit w 34 j h)
+
+module _ (x : Packed) (n : ℕ) (small : n < 16) where
+  abbrev above : ℕ
+  above = x.flags / 2 ^ 34 / 16 * 16 + n
+
+  abbrev word : ℕ
+  word = above * 2 ^ 34 + x.flags % 2 ^ 34
+
+  abbrev parted : Flags
+  parted j = if ltb j 34 then flags_of x.flags j else flags_of word j
+
+  below_count : x.flags % 2 ^ 34 < 2 ^ 34
+  below_count = mod-lt x.flags (pow_pos 34)
+
+  is_parted : flags_of word ≡ parted
+  is_parted = fun_ext (λ j. go j (dec_lt j 34))
+    where
+      go : (j : ℕ) → Dec (j < 34) → flags_of word j ≡ parted j
+      go j (yes h) = rw (lt-ltb j 34 h) (as_below x.flags word j h (low above 34 below_count))
+      go j (no h) = rw (le-ltb j 34 (omega arith))
+
+  pub counted : unpacked (at_flags x word) ≡ with_track (with_this_watch (record { mark = (unpacked x).traffic.track.watch.mark; count = n }) (unpacked x).traffic.track) (unpacked x)
+  counted =
+      ap (λ (f : Flags). with_flags f x) is_parted
+      ∙ ap (λ (c : ℕ). with_track (with_this_watch (record { mark = (unpacked x).traffic.track.watch.mark; count = c }) (unpacked x).traffic.track) (unpacked x))
+      (count_is word ∙ ap (λ (m : ℕ). m % 16) (high above 34 below_count) ∙ omega arith)

@@ -37,20 +37,8 @@ module _ (x : Packed) where
   abbrev word : ℕ
   word = x.flags
 
-  abbrev at_flags : ℕ → Packed
+  abbrev pub at_flags : ℕ → Packed
   at_flags r = record { flags = r; occupied = x.occupied; signals = x.signals }
 
-  -- one flag, the two values of a code, the two codes of a pair
   pub one : (k : ℕ) (v : Bool) → k < 49 → {r : ℕ} → r ≡ flagged word k v → unpacked (at_flags r) ≡ by (with_flag k v (flags_of word))
   one k v h e = ap by (then_flagged word k v h refl e)
-
-  pub two : (k l : ℕ) (v w : Bool) → k < 49 → l < 49 → {n r : ℕ} → n ≡ flagged word k v → r ≡ flagged n l w → unpacked (at_flags r) ≡ by (with_flag l w (with_flag k v (flags_of word)))
-  two k l v w h i {n} d e = ap by (then_flagged n l w i (then_flagged word k v h refl d) e)
-
-  pub four : (a b c d : ℕ) (v w s t : Bool) → a < 49 → b < 49 → c < 49 → d < 49 → {m n o r : ℕ} → m ≡ flagged word a v → n ≡ flagged m b w → o ≡ flagged n c s → r ≡ flagged o d t
-      → unpacked (at_flags r) ≡ by (with_flag d t (with_flag c s (with_flag b w (with_flag a v (flags_of word)))))
-  four a b c d v w s t h i j k {m} {n} {o} e f g l = ap by (then_flagged o d t k (then_flagged n c s j (then_flagged m b w i (then_flagged word a v h refl e) f) g) l)
-
-  pub five : (a b c d e : ℕ) (v w s t u : Bool) → a < 49 → b < 49 → c < 49 → d < 49 → e < 49 → {m n o p r : ℕ} → m ≡ flagged word a v → n ≡ flagged m b w → o ≡ flagged n c s → p ≡ flagged o d t → r ≡ flagged p e u
-      → unpacked (at_flags r) ≡ by (with_flag e u (with_flag d t (with_flag c s (with_flag b w (with_flag a v (flags_of word))))))
-  five a b c d e v w s t u h i j k l {m} {n} {o} {p} f g x y z = ap by (then_flagged p e u l (then_flagged o d t k (then_flagged n c s j (then_flagged m b w i (then_flagged word a v h refl f) g) x) y) z)

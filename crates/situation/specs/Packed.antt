@@ -2,9 +2,11 @@
 use Rattle.std.specs.Prelude.{ℕ, ◌+◌, ◌-◌, ◌*◌, Bool, ltb, if◌then◌else◌}
 use Rattle.words.specs.Words.{flag}
 use Rattle.sections.specs.Sections.{◌belongs_to◌, ◌with_section◌, ◌without_section◌}
-use Rattle.rulebook.specs.Situation.{Station, Situation}
+use Rattle.rulebook.specs.Situation.{Station, Situation, ◌becomes◌, ◌annulled_by◌, ◌with_exit◌, with_entry, with_bilc, with_bslg, with_reminder, with_own_station, with_stations, with_pending, with_track, with_this_watch, with_link}
 use Rattle.situation.specs.declared.Situation.{Situation as Packed}
 use Rattle.situation.specs.declared.Station.{Station as PackedStation}
+use Rattle.situation.specs.declared.flags.Flag.{Flag}
+use Rattle.situation.specs.declared.flags.Flag.TheVariants.{Out, Inward, Afbli, Afble, Normal, Special, Entry, Bilc, Bslg, Reminder, Asks, OtherOut, OtherInward, OtherAsks, Link, Mark}
 
 -- the flags that are set, by their bits
 abbrev pub Flags : Type 0
@@ -52,6 +54,44 @@ with_flags f x =
 
 abbrev pub unpacked : Packed → Situation
 unpacked x = with_flags (flags_of x.flags) x
+
+-- where a flag stands
+abbrev pub bit_of : Flag → ℕ
+bit_of Out = 0
+bit_of Inward = 1
+bit_of Afbli = 2
+bit_of Afble = 3
+bit_of Normal = 4
+bit_of Special = 5
+bit_of Entry = 6
+bit_of Bilc = 7
+bit_of Bslg = 8
+bit_of Reminder = 9
+bit_of Asks = 10
+bit_of OtherOut = 16
+bit_of OtherInward = 17
+bit_of OtherAsks = 26
+bit_of Link = 32
+bit_of Mark = 33
+
+-- the situation in which that flag says v
+abbrev pub set : Flag → Bool → Situation → Situation
+set Out v x = with_own_station (x.traffic.own becomes (record { out = v; inward = x.traffic.own.orientation.inward })) x
+set Inward v x = with_own_station (x.traffic.own becomes (record { out = x.traffic.own.orientation.out; inward = v })) x
+set Afbli v x = with_own_station (x.traffic.own annulled_by (record { afbli = v; afble = x.traffic.own.annulment.afble })) x
+set Afble v x = with_own_station (x.traffic.own annulled_by (record { afbli = x.traffic.own.annulment.afbli; afble = v })) x
+set Normal v x = with_own_station (x.traffic.own with_exit (record { normal = v; special = x.traffic.own.exit.special })) x
+set Special v x = with_own_station (x.traffic.own with_exit (record { normal = x.traffic.own.exit.normal; special = v })) x
+set Entry v x = with_own_station (with_entry v x.traffic.own) x
+set Bilc v x = with_own_station (with_bilc v x.traffic.own) x
+set Bslg v x = with_own_station (with_bslg v x.traffic.own) x
+set Reminder v x = with_own_station (with_reminder v x.traffic.own) x
+set Asks v x = with_pending (record { own = v; other = x.traffic.pending.other }) x
+set OtherOut v x = with_stations x.traffic.own (x.traffic.other becomes (record { out = v; inward = x.traffic.other.orientation.inward })) x
+set OtherInward v x = with_stations x.traffic.own (x.traffic.other becomes (record { out = x.traffic.other.orientation.out; inward = v })) x
+set OtherAsks v x = with_pending (record { own = x.traffic.pending.own; other = v }) x
+set Link v x = with_link v x
+set Mark v x = with_track (with_this_watch (record { mark = v; count = x.traffic.track.watch.count }) x.traffic.track) x
 
 -- a flag set or cleared
 abbrev pub flagged : ℕ → ℕ → Bool → ℕ

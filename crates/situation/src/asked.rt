@@ -4,7 +4,7 @@ ghost use Rattle.rulebook.specs.Situation.{any_exit_route, track_free, line_free
 ghost use Rattle.rulebook.specs.Place.{held_in_area};
 ghost use Rattle.situation.specs.Packed.{station, unpacked};
 
-use super::flags::{ASKS, LINK, OTHER_ASKS, exchanged, has_flag};
+use super::flags::{Flag, exchanged, has_flag};
 use super::{Situation, Station};
 use block::line::{Direction, Name, Plan};
 use sections::either;
@@ -13,15 +13,17 @@ impl Situation {
     pub fn linked(self) -> bool
         ensures { result ≡ (unpacked self).traffic.link }
     {
-        has_flag(self.flags, LINK)
+        has_flag(self.flags, Flag::Link)
     }
 
+    #[tactic(auto, unfolding(crate::specs::Packed::station))]
     pub fn own(self) -> Station
         ensures { station result ≡ (unpacked self).traffic.own }
     {
         Station { flags: self.flags }
     }
 
+    #[tactic(auto, using(crate::proofs::Exchanged::others_flags), unfolding(crate::specs::Packed::station))]
     pub fn other(self) -> Station
         ensures { station result ≡ (unpacked self).traffic.other }
     {
@@ -44,13 +46,13 @@ impl Situation {
     pub fn asks(self) -> bool
         ensures { result ≡ (unpacked self).traffic.pending.own }
     {
-        has_flag(self.flags, ASKS)
+        has_flag(self.flags, Flag::Asks)
     }
 
     pub fn other_asks(self) -> bool
         ensures { result ≡ (unpacked self).traffic.pending.other }
     {
-        has_flag(self.flags, OTHER_ASKS)
+        has_flag(self.flags, Flag::OtherAsks)
     }
 
     // No section is occupied, and no count runs.
@@ -63,9 +65,7 @@ impl Situation {
     pub fn any_exit_route(self) -> bool
         ensures { result ≡ any_exit_route (unpacked self) }
     {
-        let own = self.own();
-        let other = self.other();
-        own.routed() | other.routed()
+        self.own().routed() | self.other().routed()
     }
 
     // The flags are asked together.

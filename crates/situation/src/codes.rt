@@ -5,6 +5,7 @@ ghost use Rattle.situation.specs.CodeSets.{own_codes, other_codes, for_value, wh
 
 use super::Situation;
 
+// Own's and the other's each by itself: a set that is wanted is asked of both.
 impl Situation {
     pub fn own_codes(self) -> u16
         ensures { result ≡ own_codes self }
@@ -15,12 +16,12 @@ impl Situation {
     pub fn other_codes(self) -> u16
         ensures { result ≡ other_codes self }
     {
-        let other = self.flags >> 16;
-        (other % 64) as u16
+        (self.flags / 65536 % 64) as u16
     }
 }
 
-// A set for each of the values 0, 1 and 2; no code has another.
+// A set for each of the values 0, 1 and 2; the value is any byte, and no code has another.
+// A match, not three sets asked by index: an array of constants is built anew at each call.
 pub fn for_value(zeros: u64, ones: u64, twos: u64, value: u8) -> u64
     ensures { result ≡ for_value zeros ones twos value }
 {
@@ -32,6 +33,7 @@ pub fn for_value(zeros: u64, ones: u64, twos: u64, value: u8) -> u64
     }
 }
 
+#[tactic(auto, unfolding(crate::specs::CodeSets::where_orientation))]
 pub fn where_orientation(value: u8) -> u64
     ensures { result ≡ where_orientation value }
 {
@@ -43,6 +45,7 @@ pub fn where_orientation(value: u8) -> u64
     )
 }
 
+#[tactic(auto, unfolding(crate::specs::CodeSets::where_annulment))]
 pub fn where_annulment(value: u8) -> u64
     ensures { result ≡ where_annulment value }
 {
@@ -54,6 +57,7 @@ pub fn where_annulment(value: u8) -> u64
     )
 }
 
+#[tactic(auto, unfolding(crate::specs::CodeSets::where_exit))]
 pub fn where_exit(value: u8) -> u64
     ensures { result ≡ where_exit value }
 {

@@ -14,35 +14,29 @@ impl Situation {
     {
         let before = d.before(k);
         let occupied = has(self.occupied, before);
-        let across = plan.across_frontier(before, k as u16);
+        let across = plan.across_frontier(before, u16::from(k));
         occupied & (self.linked() | !across)
     }
 
     fn expected_out(self, plan: Plan, s: Name, k: u8) -> bool
         ensures { result ≡ expected_out plan s k (unpacked self) }
     {
-        let away = s.away();
-        let own = self.own();
-        let first = plan.is_first(s, k as u16);
-        (first & own.routed()) | self.follows(plan, k, away)
+        let first = plan.is_first(s, u16::from(k));
+        (first & self.own().routed()) | self.follows(plan, k, s.away())
     }
 
     fn expected_in(self, plan: Plan, s: Name, k: u8) -> bool
         ensures { result ≡ expected_in plan s k (unpacked self) }
     {
-        let there = s.opposite();
-        let toward = s.toward();
-        let other = self.other();
-        let first = plan.is_first(there, k as u16);
-        (first & other.routed()) | self.follows(plan, k, toward)
+        let first = plan.is_first(s.opposite(), u16::from(k));
+        (first & self.other().routed()) | self.follows(plan, k, s.toward())
     }
 
     // Own's area has a direction, and trains come that way.
     pub(crate) fn expected(self, plan: Plan, s: Name, k: u8) -> bool
         ensures { result ≡ expected plan s k (unpacked self) }
     {
-        let own = self.own();
-        let way = own.area_direction();
+        let way = self.own().area_direction();
         let leaves = self.expected_out(plan, s, k);
         let arrives = self.expected_in(plan, s, k);
         (way.out & leaves) | (way.inward & arrives)

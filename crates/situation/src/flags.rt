@@ -1,68 +1,54 @@
-// The flags of a situation, a bit each in one word: own's from 0, the other's from 16, the line's from 32.
+// The flags of a situation, a bit each in one word: own's from 0, the other's from 16, the line's from 32. From bit 34 on stands the count.
 ghost use Rattle.std.specs.Prelude.{◌≡◌, ℕ};
 ghost use Rattle.sections.specs.Sections.{◌belongs_to◌};
-ghost use Rattle.situation.specs.Packed.{flagged, exchanged};
+ghost use Rattle.situation.specs.Packed.{bit_of, flagged, exchanged};
 
 use sections::{has, with_section, without_section};
 
-pub(crate) const OUT: u8 = 0;
+// Each stands at the bit of its number.
+#[derive(Clone, Copy, Debug, PartialEq, Eq)]
+pub(crate) enum Flag {
+    Out = 0,
+    Inward = 1,
+    Afbli = 2,
+    Afble = 3,
+    Normal = 4,
+    Special = 5,
+    Entry = 6,
+    Bilc = 7,
+    Bslg = 8,
+    Reminder = 9,
+    Asks = 10,
+    OtherOut = 16,
+    OtherInward = 17,
+    OtherAsks = 26,
+    Link = 32,
+    Mark = 33,
+}
 
-pub(crate) const INWARD: u8 = 1;
+// The lowest of the count's four bits.
+pub(crate) const COUNT: u64 = 1 << 34;
 
-pub(crate) const AFBLI: u8 = 2;
-
-pub(crate) const AFBLE: u8 = 3;
-
-pub(crate) const NORMAL: u8 = 4;
-
-pub(crate) const SPECIAL: u8 = 5;
-
-pub(crate) const ENTRY: u8 = 6;
-
-pub(crate) const BILC: u8 = 7;
-
-pub(crate) const BSLG: u8 = 8;
-
-pub(crate) const REMINDER: u8 = 9;
-
-pub(crate) const ASKS: u8 = 10;
-
-pub(crate) const OTHER_OUT: u8 = 16;
-
-pub(crate) const OTHER_INWARD: u8 = 17;
-
-pub(crate) const OTHER_ASKS: u8 = 26;
-
-pub(crate) const LINK: u8 = 32;
-
-pub(crate) const MARK: u8 = 33;
-
-// The count's four bits, from the lowest.
-pub(crate) const COUNT_1: u8 = 34;
-
-pub(crate) const COUNT_2: u8 = 35;
-
-pub(crate) const COUNT_4: u8 = 36;
-
-pub(crate) const COUNT_8: u8 = 37;
-
-pub(crate) fn has_flag(flags: u64, k: u8) -> bool
-    ensures { result ≡ (k belongs_to flags) }
+pub(crate) fn has_flag(flags: u64, flag: Flag) -> bool
+    ensures { result ≡ (bit_of flag belongs_to flags) }
 {
-    has(flags, k as u16)
+    has(flags, flag as u16)
 }
 
 // The flag set or cleared.
-pub(crate) fn flagged(flags: u64, k: u8, v: bool) -> u64
-    ensures { result ≡ flagged flags k v }
+pub(crate) fn flagged(flags: u64, flag: Flag, v: bool) -> u64
+    ensures { result ≡ flagged flags (bit_of flag) v }
 {
     if v {
-        return with_section(flags, k);
+        with_section(flags, flag as u8)
+    } else {
+        without_section(flags, flag as u8)
     }
-    without_section(flags, k)
 }
 
 // Own's flags and the other's exchanged.
+// Not a rotation: the compiler then computes it for both stations, whichever is asked.
+#[tactic(auto, using(crate::proofs::Exchanged::swapped))]
 pub(crate) fn exchanged(flags: u64) -> u64
     ensures { (j : ℕ) → (j belongs_to result) ≡ (exchanged j belongs_to flags) }
 {

@@ -9,6 +9,7 @@ ghost use Rattle.rulebook.specs.Apply.{leads};
 ghost use Rattle.situation.specs.Packed.{unpacked};
 
 use super::Situation;
+use super::flags::Flag;
 use block::codes::{Annulment, Orientation, Pending, Route};
 use block::event::Spot;
 use sections::{with_section, without_section};
@@ -63,14 +64,15 @@ const OWN_SOBB: Pending = Pending {
     other: false,
 };
 
+// Also where two events differ in one value, as BILC and DILC, each has its method; each takes the spot, as each row of the table does.
 impl Situation {
-    pub fn sobb(mut self, at: Spot) -> Situation
+    pub fn sobb(self, at: Spot) -> Situation
         ensures { unpacked result ≡ leads Sobb at (unpacked self) }
     {
         self.with_pending(OWN_SOBB)
     }
 
-    pub fn cobb(mut self, at: Spot) -> Situation
+    pub fn cobb(self, at: Spot) -> Situation
         ensures { unpacked result ≡ leads Cobb at (unpacked self) }
     {
         self.reoriented(IN, OUT).settled(false, self)
@@ -87,74 +89,72 @@ impl Situation {
         next.becomes(NONE)
     }
 
-    pub fn afbli(mut self, at: Spot) -> Situation
+    pub fn afbli(self, at: Spot) -> Situation
         ensures { unpacked result ≡ leads Afbli at (unpacked self) }
     {
         self.annul(at, AFBLI).settled(true, self)
     }
 
-    pub fn afble(mut self, at: Spot) -> Situation
+    pub fn afble(self, at: Spot) -> Situation
         ensures { unpacked result ≡ leads Afble at (unpacked self) }
     {
         self.annul(at, AFBLE).settled(true, self)
     }
 
-    pub fn dafbl(mut self, at: Spot) -> Situation
+    pub fn dafbl(self, at: Spot) -> Situation
         ensures { unpacked result ≡ leads Dafbl at (unpacked self) }
     {
         self.annulled_by(NO_ANNULMENT)
     }
 
-    pub fn bilc(mut self, at: Spot) -> Situation
+    pub fn bilc(self, at: Spot) -> Situation
         ensures { unpacked result ≡ leads Bilc at (unpacked self) }
     {
-        self.with_bilc(true)
+        self.with(Flag::Bilc, true)
     }
 
-    pub fn dilc(mut self, at: Spot) -> Situation
+    pub fn dilc(self, at: Spot) -> Situation
         ensures { unpacked result ≡ leads Dilc at (unpacked self) }
     {
-        self.with_bilc(false)
+        self.with(Flag::Bilc, false)
     }
 
-    pub fn bslg(mut self, at: Spot) -> Situation
+    pub fn bslg(self, at: Spot) -> Situation
         ensures { unpacked result ≡ leads Bslg at (unpacked self) }
     {
-        self.with_bslg(true)
+        self.with(Flag::Bslg, true)
     }
 
-    pub fn bslg_off(mut self, at: Spot) -> Situation
+    pub fn bslg_off(self, at: Spot) -> Situation
         ensures { unpacked result ≡ leads BslgOff at (unpacked self) }
     {
-        self.with_bslg(false)
+        self.with(Flag::Bslg, false)
     }
 
-    pub fn bslb(mut self, at: Spot) -> Situation
+    pub fn bslb(self, at: Spot) -> Situation
         ensures { unpacked result ≡ leads Bslb at (unpacked self) }
     {
-        let d = at.direction;
-        let held = with_section(self.held(d), at.section);
-        self.with_held(d, held)
+        let held = self.held(at.direction);
+        self.with_held(at.direction, with_section(held, at.section))
     }
 
-    pub fn bslb_off(mut self, at: Spot) -> Situation
+    pub fn bslb_off(self, at: Spot) -> Situation
         ensures { unpacked result ≡ leads BslbOff at (unpacked self) }
     {
-        let d = at.direction;
-        let held = without_section(self.held(d), at.section);
-        self.with_held(d, held)
+        let held = self.held(at.direction);
+        self.with_held(at.direction, without_section(held, at.section))
     }
 
-    pub fn reminder(mut self, at: Spot) -> Situation
+    pub fn reminder(self, at: Spot) -> Situation
         ensures { unpacked result ≡ leads Reminder at (unpacked self) }
     {
-        self.with_reminder(true)
+        self.with(Flag::Reminder, true)
     }
 
-    pub fn reminder_off(mut self, at: Spot) -> Situation
+    pub fn reminder_off(self, at: Spot) -> Situation
         ensures { unpacked result ≡ leads ReminderOff at (unpacked self) }
     {
-        self.with_reminder(false)
+        self.with(Flag::Reminder, false)
     }
 
     // If own is in, own becomes out and the other in. With AFBLE no orientation is written. Mark and count are cleared.
@@ -163,41 +163,40 @@ impl Situation {
     {
         let next = self.with_watch(false, 0).with_exit(route);
         let own = self.own();
-        let turns = own.is_in() & !own.under_afble();
-        if turns {
+        if own.is_in() & !own.under_afble() {
             return next.reoriented(OUT, IN);
         }
         next
     }
 
-    pub fn exit_normal(mut self, at: Spot) -> Situation
+    pub fn exit_normal(self, at: Spot) -> Situation
         ensures { unpacked result ≡ leads ExitNormal at (unpacked self) }
     {
         self.exit(at, NORMAL).settled(false, self)
     }
 
-    pub fn exit_special(mut self, at: Spot) -> Situation
+    pub fn exit_special(self, at: Spot) -> Situation
         ensures { unpacked result ≡ leads ExitSpecial at (unpacked self) }
     {
         self.exit(at, SPECIAL).settled(false, self)
     }
 
-    pub fn exit_released(mut self, at: Spot) -> Situation
+    pub fn exit_released(self, at: Spot) -> Situation
         ensures { unpacked result ≡ leads ExitReleased at (unpacked self) }
     {
         self.with_exit(NO_ROUTE)
     }
 
-    pub fn entry(mut self, at: Spot) -> Situation
+    pub fn entry(self, at: Spot) -> Situation
         ensures { unpacked result ≡ leads Entry at (unpacked self) }
     {
-        self.with_entry(true)
+        self.with(Flag::Entry, true)
     }
 
-    pub fn entry_released(mut self, at: Spot) -> Situation
+    pub fn entry_released(self, at: Spot) -> Situation
         ensures { unpacked result ≡ leads EntryReleased at (unpacked self) }
     {
-        self.with_entry(false)
+        self.with(Flag::Entry, false)
     }
 
     // The section is occupied. The count goes to 0; a mark stays, and is set by a stray occupation.
@@ -206,7 +205,7 @@ impl Situation {
     {
         let next = self.with_occupied(with_section(self.occupied, at.section));
         if self.marked() {
-            return next.uncounted();
+            return next.with_count(0);
         }
         next.with_watch(self.stray(at), 0)
     }
@@ -220,37 +219,30 @@ impl Situation {
         if !own.annulled() {
             return next;
         }
-        let plan = at.plan;
-        let name = at.own;
-        let first = plan.is_first(name, at.section as u16);
+        let first = at.plan.is_first(at.own, u16::from(at.section));
         if own.under_afble() & first {
             return next;
         }
-        if self.expected(plan, name, at.section) {
+        if self.expected(at.plan, at.own, at.section) {
             return next;
         }
         next.annulled_by(NO_ANNULMENT)
     }
 
     // If the section is own's first, own is in, and the line was free, own becomes out and the other in.
-    pub fn occupied(mut self, at: Spot) -> Situation
+    pub fn occupied(self, at: Spot) -> Situation
         ensures { unpacked result ≡ leads Occupied at (unpacked self) }
     {
-        let plan = at.plan;
-        let name = at.own;
         let next = self.taken(at).settled(true, self);
-        if plan.is_first(name, at.section as u16) {
-            let own = self.own();
-            let turns = own.is_in() & self.line_free();
-            if turns {
-                return next.reoriented(OUT, IN);
-            }
+        let first = at.plan.is_first(at.own, u16::from(at.section));
+        if first && self.own().is_in() & self.line_free() {
+            return next.reoriented(OUT, IN);
         }
         next
     }
 
     // When the last section clears with the mark set and no exit route set, a count of 10 starts.
-    pub fn freed(mut self, at: Spot) -> Situation
+    pub fn freed(self, at: Spot) -> Situation
         ensures { unpacked result ≡ leads Freed at (unpacked self) }
     {
         let left = without_section(self.occupied, at.section);
@@ -265,16 +257,16 @@ impl Situation {
         next
     }
 
-    pub fn link_lost(mut self, at: Spot) -> Situation
+    pub fn link_lost(self, at: Spot) -> Situation
         ensures { unpacked result ≡ leads LinkLost at (unpacked self) }
     {
-        self.with_link(false).settled(true, self)
+        self.with(Flag::Link, false).settled(true, self)
     }
 
-    pub fn link_restored(mut self, at: Spot) -> Situation
+    pub fn link_restored(self, at: Spot) -> Situation
         ensures { unpacked result ≡ leads LinkRestored at (unpacked self) }
     {
-        let next = self.with_link(true);
+        let next = self.with(Flag::Link, true);
         if self.one_out_one_in() {
             return next;
         }
@@ -282,7 +274,7 @@ impl Situation {
     }
 
     // Each second lowers the count; when that brings it to 0 the mark goes; with no count running a second changes nothing.
-    pub fn second(mut self, at: Spot) -> Situation
+    pub fn second(self, at: Spot) -> Situation
         ensures { unpacked result ≡ leads Second at (unpacked self) }
     {
         let count = self.count();

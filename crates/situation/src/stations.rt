@@ -4,70 +4,70 @@ ghost use Rattle.rulebook.specs.Situation.{◌is_out, ◌is_in, ◌under_AFBLI, 
 ghost use Rattle.situation.specs.Packed.{station};
 
 use super::Station;
-use super::flags::{
-    AFBLE, AFBLI, BILC, BSLG, ENTRY, INWARD, NORMAL, OUT, REMINDER, SPECIAL, has_flag,
-};
+use super::flags::{Flag, has_flag};
 use block::codes::{Annulment, Orientation, Route};
 
+// A method for each word of the document, each one flag.
+#[tactic(auto, unfolding(crate::specs::Packed::station))]
 impl Station {
     pub fn is_out(self) -> bool
         ensures { result ≡ (station self is_out) }
     {
-        has_flag(self.flags, OUT)
+        has_flag(self.flags, Flag::Out)
     }
 
     pub fn is_in(self) -> bool
         ensures { result ≡ (station self is_in) }
     {
-        has_flag(self.flags, INWARD)
+        has_flag(self.flags, Flag::Inward)
     }
 
     pub fn under_afbli(self) -> bool
         ensures { result ≡ (station self under_AFBLI) }
     {
-        has_flag(self.flags, AFBLI)
+        has_flag(self.flags, Flag::Afbli)
     }
 
     pub fn under_afble(self) -> bool
         ensures { result ≡ (station self under_AFBLE) }
     {
-        has_flag(self.flags, AFBLE)
+        has_flag(self.flags, Flag::Afble)
     }
 
     pub fn annulled(self) -> bool
         ensures { result ≡ (station self annulled) }
     {
-        has_flag(self.flags, AFBLI) | has_flag(self.flags, AFBLE)
+        has_flag(self.flags, Flag::Afbli) | has_flag(self.flags, Flag::Afble)
     }
 
     pub fn routed(self) -> bool
         ensures { result ≡ (station self has_exit_route) }
     {
-        has_flag(self.flags, NORMAL) | has_flag(self.flags, SPECIAL)
+        has_flag(self.flags, Flag::Normal) | has_flag(self.flags, Flag::Special)
     }
 
     pub fn has_entry(self) -> bool
         ensures { result ≡ (station self).entry }
     {
-        has_flag(self.flags, ENTRY)
+        has_flag(self.flags, Flag::Entry)
     }
 
     pub fn has_bilc(self) -> bool
         ensures { result ≡ (station self).bilc }
     {
-        has_flag(self.flags, BILC)
+        has_flag(self.flags, Flag::Bilc)
     }
 
     pub fn has_bslg(self) -> bool
         ensures { result ≡ (station self).bslg }
     {
-        has_flag(self.flags, BSLG)
+        has_flag(self.flags, Flag::Bslg)
     }
 
     pub fn has_reminder(self) -> bool
         ensures { result ≡ (station self).reminder }
     {
-        has_flag(self.flags, REMINDER)
+        has_flag(self.flags, Flag::Reminder)
     }
 
     pub fn orientation(self) -> Orientation
@@ -92,8 +92,8 @@ impl Station {
         ensures { result ≡ (station self).exit }
     {
         Route {
-            normal: has_flag(self.flags, NORMAL),
-            special: has_flag(self.flags, SPECIAL),
+            normal: has_flag(self.flags, Flag::Normal),
+            special: has_flag(self.flags, Flag::Special),
         }
     }
 

@@ -1,46 +1,45 @@
 // The situation's record, read into a situation and written from one.
 #![tactic(auto)]
 
-ghost use Rattle.std.specs.Prelude.{◌≡◌, ◌≤◌, leb, length, take, get_or};
+ghost use Rattle.std.specs.Prelude.{◌≡◌, ◌≤◌, length, take, get_or, leb};
 ghost use Rattle.words.specs.Words.{◌and◌};
 ghost use Rattle.situation.specs.Packed.{unpacked};
 ghost use Rattle.records.specs.Situation.{bits, in_range, no_situation, codes_of, situation_of};
 ghost use Rattle.records.specs.InBytes.{codes_at, both_zero, situation_letters, situation_size, situation_bytes};
 ghost use Rattle.forms.specs.Form.{laid};
 ghost use Rattle.situations.specs.InWords.{bits_word, codes_word, line_word, flags_word, in_words};
+ghost use Rattle.situations.specs.Record.{codes_in};
 
 use block::codes::Pending;
 use block::line::Direction;
 use forms::Letters;
-use records::field::{low_byte, section_field};
+use records::field::section_field;
 use records::situation::{SI, SI_SIZE, SJ, SJ_SIZE};
 use situation::{Signals, Situation};
-use words::flag;
 
-// Where an SJ has its mark and its count.
-const MARK: usize = 21;
-
-const COUNT: usize = 22;
+// The bit of a station that says that its SOBB is pending, for A and for B.
+const BOTH_ASK: u64 = 1 << 10 | 1 << 26;
 
 // A station's bits: BILC, BSLG, reminder, a pending SOBB.
 fn bits_word(bilc: u8, bslg: u8, reminder: u8, asks: u8) -> u64
     ensures { (result ≡ bits_word bilc bslg reminder asks) × (result ≤ 3825) }
 {
-    bilc as u64 + 2 * (bslg as u64 + 2 * (reminder as u64 + 2 * (asks as u64)))
+    u64::from(bilc) + 2 * (u64::from(bslg) + 2 * (u64::from(reminder) + 2 * u64::from(asks)))
 }
 
 fn station_word(orientation: u8, annulment: u8, exit: u8, entry: u8, bits: u64) -> u64
     requires { bits ≤ 3825 }
     ensures { (result ≡ codes_word orientation annulment exit entry bits) × (result ≤ 1048575) }
 {
-    orientation as u64 + 4 * (annulment as u64 + 4 * (exit as u64 + 4 * (entry as u64 + 2 * bits)))
+    u64::from(orientation)
+        + 4 * (u64::from(annulment) + 4 * (u64::from(exit) + 4 * (u64::from(entry) + 2 * bits)))
 }
 
 // The link, the mark and the count.
 fn line_word(link: u8, mark: u8, count: u8) -> u64
     ensures { (result ≡ line_word link mark count) × (result ≤ 1785) }
 {
-    link as u64 + 2 * (mark as u64 + 2 * (count as u64))
+    u64::from(link) + 2 * (u64::from(mark) + 2 * u64::from(count))
 }
 
 fn flags_word(own: u64, other: u64, line: u64) -> u64
@@ -50,89 +49,93 @@ fn flags_word(own: u64, other: u64, line: u64) -> u64
     own + 65536 * (other + 65536 * line)
 }
 
-// The byte at a place, and zero past the end: "SI means both zero".
-fn byte_or_zero(s: &[u8], at: usize) -> u8
-    ensures { result ≡ get_or s.now at 0 }
-{
-    if at < s.len() {
-        return s[at];
-    }
-    0
+// A record SI or SJ: the bytes that both have, and the mark and the count of an SJ: "SI means both zero".
+#[derive(Clone, Copy)]
+struct Record<'a> {
+    bytes: &'a [u8; SI_SIZE],
+    watch: &'a [u8],
 }
 
-// The link, and of an SJ its mark and its count.
-fn line_in(si: &[u8]) -> u64
-    requires { 21 ≤ length si.now }
-    ensures { (result ≡ line_word (get_or si.now 2 0) (get_or si.now 21 0) (get_or si.now 22 0)) × (result ≤ 1785) }
-{
-    if si.len() <= MARK {
-        return line_word(si[2], 0, 0);
+impl Record<'_> {
+    fn new(si: &[u8]) -> Record<'_>
+        requires { 21 ≤ length si.now }
+        ensures { codes_in result ≡ codes_at si.now }
+    {
+        let (bytes, watch) = si.split_first_chunk().unwrap();
+        Record { bytes, watch }
     }
-    line_word(si[2], si[MARK], byte_or_zero(si, COUNT))
-}
 
-fn flags_in(si: &[u8]) -> u64
-    requires { 21 ≤ length si.now }
-    ensures { result ≡ (in_words (codes_at si.now)).flags }
-{
-    let bits = bits_word(si[12] % 2, si[13] % 2, si[14] % 2, si[11] % 2);
-    let own = station_word(si[3], si[5], si[7], si[9], bits);
-    let bits = bits_word(si[12] / 2, si[13] / 2, si[14] / 2, si[11] / 2);
-    let other = station_word(si[4], si[6], si[8], si[10], bits);
-    flags_word(own, other, line_in(si))
-}
-
-fn decoded(si: &[u8]) -> Situation
-    requires { 21 ≤ length si.now }
-    ensures { result ≡ in_words (codes_at si.now) }
-{
-    let flags = flags_in(si);
-    let occupied = 2 * section_field(si, 15, 2);
-    let signals = Signals {
-        heldb: 2 * section_field(si, 17, 2),
-        helda: 2 * section_field(si, 19, 2),
-    };
-    Situation {
-        flags,
-        occupied,
-        signals,
+    // The link, the mark and the count.
+    fn line(&self) -> u64
+        ensures value { result ≡ line_word (get_or self.now.bytes.now 2 0) (get_or self.now.watch.now 0 0) (get_or self.now.watch.now 1 0) }
+        ensures small { result ≤ 1785 }
+    {
+        let link = self.bytes[2];
+        match self.watch {
+            [] => line_word(link, 0, 0),
+            [mark, rest @ ..] => line_word(link, *mark, rest.first().copied().unwrap_or(0)),
+        }
     }
-}
 
-// Of an SJ: a mark of 0 or 1, a count of 0 to 10.
-fn watch_in_range(si: &[u8]) -> bool
-    requires { 21 ≤ length si.now }
-    ensures { result ≡ (leb (get_or si.now 21 0) 1 and leb (get_or si.now 22 0) 10) }
-{
-    if si.len() <= MARK {
-        return true;
+    fn watch_in_range(&self) -> bool
+        ensures { result ≡ (leb (get_or self.now.watch.now 0 0) 1 and leb (get_or self.now.watch.now 1 0) 10) }
+    {
+        match self.watch {
+            [] => true,
+            [mark, rest @ ..] => (*mark <= 1) & (rest.first().copied().unwrap_or(0) <= 10),
+        }
     }
-    (si[MARK] <= 1) & (byte_or_zero(si, COUNT) <= 10)
-}
 
-// The first eight codes, then the others.
-fn in_range(si: &[u8]) -> bool
-    requires { 21 ≤ length si.now }
-    ensures { result ≡ in_range (codes_at si.now) }
-{
-    let first = (si[2] <= 1)
-        & (si[3] <= 2)
-        & (si[4] <= 2)
-        & (si[5] <= 2)
-        & (si[6] <= 2)
-        & (si[7] <= 2)
-        & (si[8] <= 2)
-        & (si[9] <= 1);
-    if first {
-        let watch = watch_in_range(si);
-        return (si[10] <= 1)
-            & (si[11] <= 2)
-            & (si[12] <= 3)
-            & (si[13] <= 3)
-            & (si[14] <= 3)
-            & watch;
+    fn flags(&self) -> u64
+        ensures { result ≡ (in_words (codes_in self.now)).flags }
+    {
+        let si = self.bytes;
+        let bits = bits_word(si[12] % 2, si[13] % 2, si[14] % 2, si[11] % 2);
+        let own = station_word(si[3], si[5], si[7], si[9], bits);
+        let bits = bits_word(si[12] / 2, si[13] / 2, si[14] / 2, si[11] / 2);
+        let other = station_word(si[4], si[6], si[8], si[10], bits);
+        flags_word(own, other, self.line())
     }
-    false
+
+    fn decoded(&self) -> Situation
+        ensures { result ≡ in_words (codes_in self.now) }
+    {
+        let si = self.bytes;
+        let signals = Signals {
+            heldb: 2 * section_field(&si[17..19]),
+            helda: 2 * section_field(&si[19..21]),
+        };
+        Situation {
+            flags: self.flags(),
+            occupied: 2 * section_field(&si[15..17]),
+            signals,
+        }
+    }
+
+    // The first eight codes, then the others.
+    // Tests in a row, not a loop over bytes and limits: each limit stands beside its byte.
+    fn in_range(&self) -> bool
+        ensures { result ≡ in_range (codes_in self.now) }
+    {
+        let si = self.bytes;
+        let first = (si[2] <= 1)
+            & (si[3] <= 2)
+            & (si[4] <= 2)
+            & (si[5] <= 2)
+            & (si[6] <= 2)
+            & (si[7] <= 2)
+            & (si[8] <= 2)
+            & (si[9] <= 1);
+        if first {
+            return (si[10] <= 1)
+                & (si[11] <= 2)
+                & (si[12] <= 3)
+                & (si[13] <= 3)
+                & (si[14] <= 3)
+                & self.watch_in_range();
+        }
+        false
+    }
 }
 
 // A situation that is sound in no plan: what codes out of range say. Each station's SOBB is pending.
@@ -141,7 +144,7 @@ fn no_situation() -> Situation
 {
     let signals = Signals { heldb: 0, helda: 0 };
     Situation {
-        flags: 67109888,
+        flags: BOTH_ASK,
         occupied: 0,
         signals,
     }
@@ -152,8 +155,9 @@ pub fn situation_in(si: &[u8]) -> Situation
     requires { 21 ≤ length si.now }
     ensures { unpacked result ≡ situation_of (codes_at si.now) }
 {
-    if in_range(si) {
-        return decoded(si);
+    let record = Record::new(si);
+    if record.in_range() {
+        return record.decoded();
     }
     no_situation()
 }
@@ -162,15 +166,14 @@ pub fn situation_in(si: &[u8]) -> Situation
 fn bits(a: bool, b: bool) -> u8
     ensures { result ≡ bits a b }
 {
-    flag(a) + 2 * flag(b)
+    u8::from(a) + 2 * u8::from(b)
 }
 
 // "SI means both zero."
 fn both_zero(x: Situation) -> bool
     ensures { result ≡ both_zero (codes_of (unpacked x)) }
 {
-    let count = x.count();
-    !x.marked() & (count == 0)
+    !x.marked() & (x.count() == 0)
 }
 
 fn letters_of(x: Situation) -> Letters
@@ -199,9 +202,9 @@ fn record_of(x: Situation) -> [u8; 23]
     let letters = letters_of(x);
     let own = x.own();
     let other = x.other();
-    let occupied = x.occupied / 2;
-    let heldb = x.held(Direction::TowardsB) / 2;
-    let helda = x.held(Direction::TowardsA) / 2;
+    let occupied = (x.occupied / 2).to_le_bytes();
+    let heldb = (x.held(Direction::TowardsB) / 2).to_le_bytes();
+    let helda = (x.held(Direction::TowardsA) / 2).to_le_bytes();
     let pending = Pending {
         own: x.asks(),
         other: x.other_asks(),
@@ -209,26 +212,26 @@ fn record_of(x: Situation) -> [u8; 23]
     [
         letters.first,
         letters.second,
-        flag(x.linked()),
-        own.orientation().code(),
-        other.orientation().code(),
-        own.annulment().code(),
-        other.annulment().code(),
-        own.exit_route().code(),
-        other.exit_route().code(),
-        flag(own.has_entry()),
-        flag(other.has_entry()),
-        pending.code(),
+        u8::from(x.linked()),
+        u8::from(own.orientation()),
+        u8::from(other.orientation()),
+        u8::from(own.annulment()),
+        u8::from(other.annulment()),
+        u8::from(own.exit_route()),
+        u8::from(other.exit_route()),
+        u8::from(own.has_entry()),
+        u8::from(other.has_entry()),
+        u8::from(pending),
         bits(own.has_bilc(), other.has_bilc()),
         bits(own.has_bslg(), other.has_bslg()),
         bits(own.has_reminder(), other.has_reminder()),
-        low_byte(occupied),
-        low_byte(occupied / 256),
-        low_byte(heldb),
-        low_byte(heldb / 256),
-        low_byte(helda),
-        low_byte(helda / 256),
-        flag(x.marked()),
+        occupied[0],
+        occupied[1],
+        heldb[0],
+        heldb[1],
+        helda[0],
+        helda[1],
+        u8::from(x.marked()),
         x.count(),
     ]
 }

@@ -1,8 +1,8 @@
 // The form of a slot, and of a place to continue after.
-ghost use Rattle.std.specs.Prelude.{◌≡◌, ◌-◌, ◌≤◌, drop};
-ghost use Rattle.keylaws.specs.Slots.{filled, is_slot};
+ghost use Rattle.std.specs.Prelude.{◌≡◌, ◌≤◌, ◌==◌};
+ghost use Rattle.std.specs.List.{list_all};
+ghost use Rattle.keylaws.specs.Slots.{filled, is_place, is_slot};
 ghost use Rattle.keylaws.specs.Continuation.{is_continuation};
-ghost use Rattle.keylaws.proofs.SlotTestSteps.{byte_ok};
 
 // The bytes of a slot.
 pub const SLOT: usize = 6;
@@ -10,40 +10,34 @@ pub const SLOT: usize = 6;
 // The first byte of a continuation from the start.
 pub const FROM_START: u8 = 255;
 
-// A byte of a slot of n events, where so many places are still to come: one of 1..=n, or zero.
-fn byte_ok(n: u8, left: u8, b: u8) -> bool
-    ensures { result ≡ byte_ok n left b }
+// One of n events.
+fn is_place(n: u8, p: u8) -> bool
+    ensures { result ≡ is_place n p }
 {
-    if left == 0 {
-        return b == 0;
-    }
-    if b < 1 {
-        return false;
-    }
-    b <= n
+    (1..=n).contains(&p)
 }
 
-// How many places are left after one of them.
-fn places_left(left: u8) -> u8
-    ensures { result ≡ left - 1 }
+// Places of n events, all of them.
+fn are_places(n: u8, bytes: &[u8]) -> bool
+    ensures { result ≡ list_all (is_place n) bytes.now }
 {
-    if left == 0 { 0 } else { left - 1 }
+    bytes.iter().all(|p| is_place(n, *p))
 }
 
-// After the first byte: so many places of n events, then zeros.
-fn is_filled(n: u8, count: u8, x: &[u8]) -> bool
-    ensures { result ≡ filled n count (drop 1 x.now) }
+fn are_zero(bytes: &[u8]) -> bool
+    ensures { result ≡ list_all (λ b. b == 0) bytes.now }
 {
-    let mut left = count;
-    let mut i = 1;
-    while i < x.len() {
-        if !byte_ok(n, left, x[i]) {
-            return false;
-        }
-        left = places_left(left);
-        i += 1;
+    bytes.iter().all(|b| *b == 0)
+}
+
+// So many places of n events, then zeros.
+fn is_filled(n: u8, count: u8, bytes: &[u8]) -> bool
+    ensures { result ≡ filled n count bytes.now }
+{
+    match bytes.split_at_checked(usize::from(count)) {
+        Some((places, zeros)) => are_places(n, places) && are_zero(zeros),
+        None => false,
     }
-    left == 0
 }
 
 // A slot with length and places within the question: at most `limit` of n events.
@@ -57,7 +51,7 @@ pub fn is_slot(n: u8, limit: u8, x: &[u8]) -> bool
     if limit < count {
         return false;
     }
-    is_filled(n, count, x)
+    is_filled(n, count, &x[1..])
 }
 
 // A slot, an answer or not, with length and places within the question; or 255 and five zeros: from the start.
@@ -69,7 +63,7 @@ pub fn is_continuation(n: u8, limit: u8, x: &[u8]) -> bool
         return false;
     }
     if x[0] == FROM_START {
-        return is_filled(0, 0, x);
+        return is_filled(0, 0, &x[1..]);
     }
     is_slot(n, limit, x)
 }

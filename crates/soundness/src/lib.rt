@@ -1,14 +1,15 @@
-// A plan and a situation in it, judged: 0 where it is one, else the refusal. A test for each clause of the document.
+// A plan and a situation in it, judged. A test for each clause of the document.
 #![tactic(auto)]
 
 ghost use Rattle.std.specs.Prelude.{◌≡◌};
 ghost use Rattle.words.specs.Words.{◌and◌};
 ghost use Rattle.rulebook.specs.Sound.{station_sound, link_up_agrees, link_down_apart, may_ask, pending_sound, sets_sound, watch_sound, such_a_pair, sound_in_2024, exclusions_kept, sound};
 ghost use Rattle.rulebook.specs.Judged.{judged};
+ghost use Rattle.block.specs.Refusals.{told};
 ghost use Rattle.situation.specs.Packed.{station, unpacked};
 
 use block::line::{Direction, Name, Plan};
-use block::refused::{ACCEPTED, NO_PLAN, NOT_SOUND};
+use block::refused::{Refusal, refuse_if};
 use sections::{has, sections_up_to};
 use situation::{Situation, Station};
 
@@ -150,14 +151,10 @@ fn sound(plan: Plan, x: Situation) -> bool
     false
 }
 
-pub fn judged(plan: Plan, x: Situation) -> u8
-    ensures { result ≡ judged plan (unpacked x) }
+// Refused where the plan is none, or the situation not sound in it.
+pub fn judged(plan: Plan, x: Situation) -> Result<(), Refusal>
+    ensures { told result ≡ judged plan (unpacked x) }
 {
-    if plan.is_plan() {
-        if sound(plan, x) {
-            return ACCEPTED;
-        }
-        return NOT_SOUND;
-    }
-    NO_PLAN
+    refuse_if(!plan.is_plan(), Refusal::NoPlan)?;
+    refuse_if(!sound(plan, x), Refusal::NotSound)
 }

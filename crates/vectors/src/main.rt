@@ -3,37 +3,34 @@
 #![tactic(auto)]
 
 mod calls;
-mod numbers;
 mod record;
 mod room;
 mod text;
 
 use input::read_full;
-use record::{BODY, HEAD, case_right};
+use record::{BODY, HEAD, Head, case_right};
 use room::LONGEST;
 use std::io::{Print, Result};
 
-fn tell(rt: HostRuntime, number: u64, text: &[u8]) -> Result<()> {
-    rt.stdout().print(number)?;
-    rt.stdout().write_all(text)
-}
+// No more cases are run.
+const MOST: u64 = 1000000;
 
 fn run_cases(rt: HostRuntime, body: &mut [u8; BODY], space: &mut [u8; LONGEST]) -> Result<()> {
     let mut cases: u64 = 0;
     let mut wrong: u64 = 0;
-    while cases < 1000000 {
+    for before in 0..MOST {
         let mut head = [0u8; HEAD];
         if read_full(&mut rt.stdin(), &mut head)? < HEAD {
             break;
         }
-        cases += 1;
-        if !case_right(rt, head, body, space)? {
+        cases = before + 1;
+        if !case_right(rt, Head::from(head), body, space)? {
             wrong += 1;
-            tell(rt, cases, b" differs\n")?;
+            println!(rt; "{cases} differs")?;
         }
     }
-    tell(rt, wrong, b" differ\n")?;
-    tell(rt, cases, b" cases\n")
+    println!(rt; "{wrong} differ")?;
+    println!(rt; "{cases} cases")
 }
 
 fn main(rt: HostRuntime) -> Result<()> {

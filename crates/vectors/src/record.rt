@@ -1,59 +1,69 @@
 // A case as it stands in standard input: head, three inputs, and what is to be written.
 use crate::calls::answer;
-use crate::numbers::{long_at, short_at, word_at};
-use crate::room::{fill, is_left};
+use crate::room::{FILLED, is_left};
 use input::read_full;
 use std::io::Result;
 
-// The bytes of the head: kind, length of the room (4), the call's answer (8), lengths of the inputs (2 each) and of all that follows (2).
+// The bytes of a head.
 pub(crate) const HEAD: usize = 21;
 
 // The most that follows a head.
 pub(crate) const BODY: usize = 65536;
 
+// What no call answers: the answer of a case that makes no call.
+const NO_CALL: u64 = u64::MAX;
+
+// The call's kind, the length of its room, its answer, and the lengths of the inputs and of all that follows the head.
+#[derive(Clone, Copy)]
+pub(crate) struct Head {
+    kind: u8,
+    room: usize,
+    answer: u64,
+    first: usize,
+    second: usize,
+    third: usize,
+    body: usize,
+}
+
+impl From<[u8; HEAD]> for Head {
+    fn from(b: [u8; HEAD]) -> Head {
+        Head {
+            kind: b[0],
+            room: u32::from_le_bytes([b[1], b[2], b[3], b[4]]) as usize,
+            answer: u64::from_le_bytes([b[5], b[6], b[7], b[8], b[9], b[10], b[11], b[12]]),
+            first: usize::from(u16::from_le_bytes([b[13], b[14]])),
+            second: usize::from(u16::from_le_bytes([b[15], b[16]])),
+            third: usize::from(u16::from_le_bytes([b[17], b[18]])),
+            body: usize::from(u16::from_le_bytes([b[19], b[20]])),
+        }
+    }
+}
+
 // Reads the rest of a case and runs it in a room of the case's length. A case that is cut short is not right.
 pub(crate) fn case_right(
     rt: HostRuntime,
-    head: [u8; HEAD],
+    head: Head,
     body: &mut [u8],
     space: &mut [u8],
 ) -> Result<bool> {
-    let n = short_at(19, &head);
-    if body.len() < n {
+    let Some(body) = body.get_mut(..head.body) else {
+        return Ok(false);
+    };
+    if read_full(&mut rt.stdin(), body)? < body.len() {
         return Ok(false);
     }
-    if read_full(&mut rt.stdin(), &mut body[0..n])? < n {
+    let Some(room) = space.get_mut(..head.room) else {
         return Ok(false);
-    }
-    let size = word_at(1, &head) as usize;
-    if space.len() < size {
-        return Ok(false);
-    }
-    Ok(is_right(head, &body[0..n], &mut space[0..size]))
+    };
+    Ok(is_right(head, body, room).unwrap_or(false))
 }
 
-// Takes the inputs off the front; whether the call gives the right answer, and leaves the right room.
-fn is_right(head: [u8; HEAD], body: &[u8], room: &mut [u8]) -> bool {
-    let n = short_at(13, &head);
-    if body.len() < n {
-        return false;
-    }
-    let first = &body[0..n];
-    let rest = &body[n..];
-    let n = short_at(15, &head);
-    if rest.len() < n {
-        return false;
-    }
-    let second = &rest[0..n];
-    let rest = &rest[n..];
-    let n = short_at(17, &head);
-    if rest.len() < n {
-        return false;
-    }
-    let third = &rest[0..n];
-    let written = &rest[n..];
-    fill(room);
-    let told = answer(head[0], first, second, third, room);
-    let right = long_at(5, &head);
-    (told == right) & is_left(room, written)
+// Whether the call gives the right answer, and leaves the right room; None where the inputs are longer than the body.
+fn is_right(head: Head, body: &[u8], room: &mut [u8]) -> Option<bool> {
+    let (first, rest) = body.split_at_checked(head.first)?;
+    let (second, rest) = rest.split_at_checked(head.second)?;
+    let (third, written) = rest.split_at_checked(head.third)?;
+    room.fill(FILLED);
+    let told = answer(head.kind, first, second, third, room).unwrap_or(NO_CALL);
+    Some(told == head.answer && is_left(room, written))
 }

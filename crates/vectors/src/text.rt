@@ -13,20 +13,18 @@ fn next_size(size: usize) -> usize
     requires { 47 ≤ size }
     ensures { 47 ≤ result }
 {
-    if MOST <= size {
-        return LEAST;
-    }
-    size + STEP
+    if size < MOST { size + STEP } else { LEAST }
 }
 
-// The text of a question, at the front of the room: where it ends. A room that is too short for it is told by 0.
-pub(crate) fn write_text(question: &[u8], room: &mut [u8]) -> usize {
-    let mut progress = start();
+// The text of a question, at the front of the room: where it ends. None where the room is too short for it.
+pub(crate) fn write_text(question: &[u8], room: &mut [u8]) -> Option<usize> {
+    let mut progress = Some(start());
     let mut at: usize = 0;
     let mut size = LEAST;
-    while !progress.ended {
+    // `while`, not `for`: how many pieces a text has is known once it has ended.
+    while progress.is_some() {
         if room.len() - at < size {
-            return 0;
+            return None;
         }
         let end = at + size;
         let piece = next_piece(question, progress, &mut room[at..end]);
@@ -34,5 +32,5 @@ pub(crate) fn write_text(question: &[u8], room: &mut [u8]) -> usize {
         progress = piece.next;
         size = next_size(size);
     }
-    at
+    Some(at)
 }

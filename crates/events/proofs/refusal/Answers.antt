@@ -1,18 +1,18 @@
-use mathlib.Core.Path.{sym, ◌∙◌}
-use Rattle.rulebook.specs.Apply.{stepped}
+use mathlib.Core.Path.{sym, ap, ◌∙◌}
+use Rattle.block.specs.Refusals.{told}
+use Rattle.block.proofs.Told.{not_accepted}
 use Rattle.situation.specs.Packed.{unpacked}
-use Rattle.events.proofs.Steps.{judged_refusal}
+use Rattle.events.proofs.Steps.{bytes_refused, bytes_accepted}
+use borrow.Author.Rules.{rules}
 use Rattle.events.proofs.refusal.Goals as goal
 
-pub returns-then-not-known : goal.returns-then-not-known
-unfolding stepped
-returns-then-not-known c = rw (sym c.known.ensures ∙ c.if-not-known.true)
-
-pub returns-then-not-argument_right : goal.returns-then-not-argument_right
-unfolding stepped
-returns-then-not-argument_right c = rw (sym c.known.ensures ∙ c.if-not-known.false, sym c.argument_right.ensures ∙ c.if-not-argument_right.true)
+pub returns-in_err-bytes_refusal : goal.returns-in_err-bytes_refusal
+returns-in_err-bytes_refusal c =
+    let a = c.args in
+    let first = bytes_refused a.plan (unpacked a.x) a.event c.bytes_refusal.ensures (λ z. not_accepted _ (sym (ap told c.in_err-bytes_refusal.was) ∙ z)) in
+    search rules
 
 pub returns : goal.returns
 returns c =
     let a = c.args in
-    c.own_refusal.ensures ∙ sym (judged_refusal a.plan (unpacked a.x) a.event (sym c.known.ensures ∙ c.if-not-known.false) (sym c.argument_right.ensures ∙ c.if-not-argument_right.false))
+    bytes_accepted a.plan (unpacked a.x) a.event c.bytes_refusal.ensures (ap told c.in_ok-bytes_refusal.was) c.own_refusal.ensures

@@ -1,33 +1,30 @@
 use mathlib.Core.Path.{◌≡◌, refl, sym, ◌∙◌}
 use mathlib.Core.Bool.{Bool}
-use native.Mathlib.Omega.{arith}
 use borrow.Author.Tests.{le-leb, lt-leb}
-use Rattle.keylaws.specs.Continuation.{is_continuation}
-use Rattle.keys.specs.Key.{question_in}
-use Rattle.keys.specs.Key
-use Rattle.paper.specs.Found.{Lies}
-use Rattle.paper.specs.declared.found.Found.{Found}
 use Rattle.std.proofs.Common.{ℕ, List}
+use Rattle.keylaws.specs.Continuation.{is_continuation}
+use Rattle.paper.specs.Found.{asked}
+use Rattle.paper.specs.declared.question.Accepted.{Accepted}
+use Rattle.keys.specs.Key.{rules}
 use Rattle.keys.specs.Calls.{part_of}
-use Rattle.keys.proofs.Accepted.{bounded, ok, length_is, count_is}
+use Rattle.keys.proofs.Accepted.{limits}
 use Rattle.keys.proofs.fetch.Goals as goal
 
 -- what the code's test says of the continuation
-judged : (q : Found) (bytes after : List ℕ) → Lies q bytes → q.refusal ≡ 0 → (r v : Bool) → r ≡ is_continuation q.count q.length after → r ≡ v → is_continuation (Key.rules (question_in bytes)).events (question_in bytes).length after ≡ v
-judged q bytes after lies ok r v er e = rw (← count_is q bytes lies ok, ← length_is q bytes lies ok) (sym er ∙ e)
+judged : (q : Accepted) (after : List ℕ) {v : Bool} → is_continuation q.count q.length after ≡ v → is_continuation (rules (asked q)).events (asked q).length after ≡ v
+judged q after e = rw (← q.counted) e
 
 pub is_continuation-requires : goal.is_continuation-requires
-is_continuation-requires c =
-    omega (arith, length_is c.args.q c.args.bytes.now c.requires.0 c.requires.1, (bounded _ (ok c.args.q c.args.bytes.now c.requires.0 c.requires.1)).2)
+is_continuation-requires c = (limits c.args.q.now).0
 
 pub returns-then-not-is_continuation : goal.returns-then-not-is_continuation
 unfolding part_of
-returns-then-not-is_continuation c = rw (c.nothing.ensures, judged c.args.q c.args.bytes.now c.args.after.now c.requires.0 c.requires.1 _ _ c.is_continuation.ensures (c.if-not-is_continuation.true)) refl
+returns-then-not-is_continuation c = rw (judged c.args.q.now c.args.after.now (sym c.is_continuation.ensures ∙ c.if-not-is_continuation.true)) refl
 
 pub returns-then-room-lt-SLOT : goal.returns-then-room-lt-SLOT
 unfolding part_of
-returns-then-room-lt-SLOT c = rw (c.nothing-then-room-lt-SLOT.ensures, judged c.args.q c.args.bytes.now c.args.after.now c.requires.0 c.requires.1 _ _ c.is_continuation.ensures (c.if-not-is_continuation.false), lt-leb _ _ c.if-room-lt-SLOT.true) refl
+returns-then-room-lt-SLOT c = rw (judged c.args.q.now c.args.after.now (sym c.is_continuation.ensures ∙ c.if-not-is_continuation.false), lt-leb _ _ c.if-room-lt-SLOT.true) refl
 
 pub returns : goal.returns
 unfolding part_of
-returns c = rw (judged c.args.q c.args.bytes.now c.args.after.now c.requires.0 c.requires.1 _ _ c.is_continuation.ensures (c.if-not-is_continuation.false), le-leb _ _ c.if-room-lt-SLOT.false, ← c.part_after-part.ensures) refl
+returns c = rw (judged c.args.q.now c.args.after.now (sym c.is_continuation.ensures ∙ c.if-not-is_continuation.false), le-leb _ _ c.if-room-lt-SLOT.false, ← c.part_after.ensures) refl

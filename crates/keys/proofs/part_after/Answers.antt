@@ -1,17 +1,14 @@
+use mathlib.Core.Path.{sym}
 use native.Mathlib.Omega.{arith}
-use Rattle.keys.proofs.Accepted.{bounded, ok, length_is, count_is, events_are, at_most_24, right_there}
+use Rattle.keys.proofs.Accepted.{limits, right_there}
 use Rattle.keys.proofs.SixBytes.{continuation_six}
 use Rattle.keys.proofs.part_after.Goals as goal
 
-pub six-from-requires : goal.six-from-requires
-six-from-requires c =
-    let h = length_is c.args.q c.args.bytes.now c.requires.lies.0 c.requires.lies.1 in
-    continuation_six _ _ (omega (arith, h, (bounded _ (ok c.args.q c.args.bytes.now c.requires.lies.0 c.requires.lies.1)).2)) _ c.requires.after_value
+pub copy_from_slice-requires : goal.copy_from_slice-requires
+copy_from_slice-requires c = sym (continuation_six _ _ (limits c.args.q.now).0 _ c.requires)
 
-pub key_part-requires : goal.key_part-requires
-key_part-requires c =
-    let q = c.args.q in
-    let s = c.args.bytes.now in
-    let l = c.requires.lies.0 in
-    let n = c.requires.lies.1 in
-    let w = c.wide-limit.ensures.0 in record { events_len_bound = (at_most_24 q s l n, omega (arith, w, length_is q s l n, (bounded _ (ok q s l n)).2)); from_value = rw (events_are q s l n, ← count_is q s l n, w, c.six-from.ensures) c.requires.after_value; events_value = right_there q s l n }
+pub key_part-requires-clause-events_len_bound : goal.key_part-requires-clause-events_len_bound
+key_part-requires-clause-events_len_bound c = let l = limits c.args.q.now in (l.1, omega (arith, c.from-limit.ensures, l.0))
+
+pub key_part-requires-clause-events_value : goal.key_part-requires-clause-events_value
+key_part-requires-clause-events_value c = right_there c.args.q.now

@@ -1,23 +1,23 @@
-use Prim.Native.Nat.{ℕ}
-use mathlib.Core.Path.{◌≡◌, refl, sym, ◌∙◌}
-use native.Mathlib.Omega.{arith}
+use mathlib.Core.Path.{refl, sym, ap, ◌∙◌}
 use lib.ListN.{replicate, length-set}
-use Rattle.records.proofs.InBytes.{part_from}
-use Rattle.lists.proofs.EventsApart.{one_added, fresh_end, fresh_apart}
+use Rattle.lists.proofs.Chunks.{all_events, events_left, no_events_left}
+use Rattle.lists.proofs.EventsApart.{all_fresh, one_added, none_left, fresh_apart}
 use Rattle.lists.proofs.apart.Goals as goal
 
-pub loop-left-init : goal.loop-left-init
-loop-left-init c = (refl, refl)
+pub loop-code-init : goal.loop-code-init
+loop-code-init c = record { words = refl; left = ap (all_fresh (replicate 4 0)) (all_events _ _ c.as_chunks.ensures.front) }
 
-pub returns-then-has : goal.returns-then-has
-returns-then-has c = λ e. let z : ◌≡◌ {A = ℕ} 0 1 = cc in absurd (omega arith)
-
-pub loop-left-preserved : goal.loop-left-preserved
-loop-left-preserved c = (
-  simp length-set c.loop-left.invariant.0,
-  rw (c.with_section-after.ensures, part_from)
-      (one_added _ _ _ _ c.word_of-word.ensures.0 c.bit_of-bit.ensures.0 c.loop-left-test.true (sym c.has.ensures ∙ c.if-has.false) ∙ c.loop-left.invariant.1),
-)
+pub loop-code-preserved : goal.loop-code-preserved
+loop-code-preserved c =
+    let before = c.loop-code.invariant in
+    record {
+      words = simp length-set before.words;
+      left = rw c.with_section.ensures
+          (one_added _ _ _ _ _ c.word_of-word.ensures.0 c.bit_of-bit.ensures.0 (rw c.from.ensures at (sym c.has.ensures ∙ c.if-has.false)))
+          ∙ ap (all_fresh c.loop-code.seen) (sym (events_left _ _ c.loop-code-test.true)) ∙ before.left;
+    }
 
 pub returns : goal.returns
-returns c = λ e. fresh_apart _ (replicate 4 0) refl (sym c.loop-left.invariant.1 ∙ fresh_end _ _ c.loop-left-test.false)
+returns c =
+    let before = c.loop-code.invariant in
+    λ e. fresh_apart _ (replicate 4 0) refl (sym before.left ∙ ap (all_fresh c.loop-code.seen) (no_events_left _ _ c.loop-code-test.false) ∙ none_left _)

@@ -1,16 +1,26 @@
 use mathlib.Core.Path.{sym, ap, ◌∙◌}
-use Rattle.records.proofs.InBytes.{part_from, events_step, events_end}
 use Rattle.lists.specs.Refusal.{listed_twice}
+use Rattle.lists.proofs.Chunks.{all_events, chunks_are_pairs, twice_step, none_twice}
 use Rattle.lists.proofs.compared.Goals as goal
 
-pub returns-then-listed : goal.returns-then-listed
-unfolding listed_twice
-returns-then-listed c = sym (sym c.loop-left.invariant ∙ ap listed_twice (events_step _ c.loop-left-test.true) ∙ rw (sym (rw part_from at c.listed.ensures) ∙ c.if-listed.true))
+pub loop-event-init : goal.loop-event-init
+loop-event-init c = record { pairs = rw c.as_chunks.ensures.front (chunks_are_pairs c.args.events.now); twice = ap listed_twice (all_events _ _ c.as_chunks.ensures.front) }
 
-pub loop-left-preserved : goal.loop-left-preserved
-unfolding listed_twice
-loop-left-preserved c = sym (sym c.loop-left.invariant ∙ ap listed_twice (events_step _ c.loop-left-test.true) ∙ rw (sym (rw part_from at c.listed.ensures) ∙ c.if-listed.false, part_from))
+pub returns-then-contains : goal.returns-then-contains
+returns-then-contains c =
+    let before = c.loop-event.invariant in
+    let cut = c.in-Some.ensures.cases.0 in
+    sym (sym before.twice ∙ rw cut (twice_step _ _ (rw cut at before.pairs) ∙ rw (sym c.contains.ensures.value ∙ c.if-contains.true)))
+
+pub loop-event-preserved : goal.loop-event-preserved
+loop-event-preserved c =
+    let before = c.loop-event.invariant in
+    let cut = c.in-Some.ensures.cases.0 in
+    let pairs = rw cut at before.pairs in
+    record {
+      pairs = pairs.1;
+      twice = sym (sym before.twice ∙ rw cut (twice_step _ _ pairs ∙ rw (sym c.contains.ensures.value ∙ c.if-contains.false)));
+    }
 
 pub returns : goal.returns
-unfolding listed_twice
-returns c = sym (ap listed_twice (events_end _ c.loop-left-test.false)) ∙ c.loop-left.invariant
+returns c = sym (sym c.loop-event.invariant.twice ∙ none_twice _ c.in_default.ensures.cases)

@@ -1,17 +1,20 @@
-use mathlib.Core.Bool.{Bool}
-use mathlib.Core.Path.{sym, ap}
-use borrow.Author.Tests.{eq-eqb, ne_eqb}
-use Rattle.lists.specs.Refusal.{◌unless◌, lists_refusal}
+use mathlib.Core.Path.{refl, sym, ap, ◌∙◌}
+use borrow.Author.Rules.{rules}
+use Rattle.block.specs.Refusals.{told}
+use Rattle.block.specs.declared.refused.Refusal.TheVariants.{OutOfRange}
+use Rattle.block.proofs.Told.{not_accepted}
+use Rattle.records.specs.InBytes.{events_in, readings_in}
+use Rattle.lists.proofs.RightLists.{unless_is, refused_for_events, refused_later}
 use Rattle.lists.proofs.lists_refusal.Goals as goal
 
-pub returns-then-refusal-ne-ACCEPTED : goal.returns-then-refusal-ne-ACCEPTED
-unfolding lists_refusal
-returns-then-refusal-ne-ACCEPTED c = rw (← c.events_refusal-refusal.ensures, ne_eqb _ _ c.if-refusal-ne-ACCEPTED.true)
-
-pub returns-then-short-twice : goal.returns-then-short-twice
-unfolding lists_refusal
-returns-then-short-twice c = rw (← c.events_refusal-refusal.ensures, eq-eqb _ _ c.if-refusal-ne-ACCEPTED.false, ← c.listed_twice-twice.ensures, ← c.readings_in_range-readable.ensures) (sym (ap (λ (right : Bool). 21 unless right) c.if-short-twice.true))
+pub returns-in_err-events_refusal : goal.returns-in_err-events_refusal
+returns-in_err-events_refusal c =
+    let a = c.args in
+    let first = refused_for_events a.plan (events_in a.events.now) (readings_in a.readings.now) a.length c.in_err-events_refusal.ensures (not_accepted _) in
+    search rules
 
 pub returns : goal.returns
-unfolding lists_refusal
-returns c = rw (← c.events_refusal-refusal.ensures, eq-eqb _ _ c.if-refusal-ne-ACCEPTED.false, ← c.listed_twice-twice.ensures, ← c.readings_in_range-readable.ensures) (sym (ap (λ (right : Bool). 21 unless right) c.if-short-twice.false))
+returns c =
+    let a = c.args in
+    let others = refused_later a.plan (events_in a.events.now) (readings_in a.readings.now) a.length c.in_ok-events_refusal.ensures refl in
+    ap told c.refuse_if.ensures ∙ unless_is OutOfRange _ ∙ sym (others ∙ rw (sym c.listed_twice-once.ensures, sym c.readings_in_range-readable.ensures))

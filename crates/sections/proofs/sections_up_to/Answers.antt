@@ -7,8 +7,8 @@ use Rattle.sections.proofs.SetLaws.{nothing_over}
 use Rattle.words.proofs.Tests.{and_true}
 use Rattle.sections.proofs.sections_up_to.Goals as goal
 
-pub returns : goal.returns
-returns c =
+pub returns-else-n-lt63 : goal.returns-else-n-lt63
+returns-else-n-lt63 c =
     let m : ℕ = c.args.m in
     let n : ℕ = c.args.n in
     let fits : m < 2 ^ 64 = search rules in

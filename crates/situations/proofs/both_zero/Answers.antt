@@ -13,4 +13,4 @@ no_flag false = refl
 
 pub returns : goal.returns
 unfolding codes_of
-returns c = ap₂ (λ (v : Bool) (n : ℕ). v and eqb n 0) (ap not c.marked.ensures ∙ no_flag (unpacked c.args.x).traffic.track.watch.mark) c.count-count.ensures
+returns c = ap₂ (λ (v : Bool) (n : ℕ). v and eqb n 0) (ap not c.marked.ensures ∙ no_flag (unpacked c.args.x).traffic.track.watch.mark) c.count.ensures

@@ -9,8 +9,8 @@ pub returns-then-in_range : goal.returns-then-in_range
 unfolding situation_of
 returns-then-in_range c =
     let r = sym c.in_range.ensures ∙ c.if-in_range.true in
-    rw r (ap unpacked c.decoded.ensures ∙ in_words_say _ r)
+    rw (← c.new-record.ensures, r) (ap unpacked c.decoded.ensures ∙ in_words_say _ r)
 
 pub returns : goal.returns
 unfolding situation_of
-returns c = rw (sym c.in_range.ensures ∙ c.if-in_range.false) c.no_situation.ensures
+returns c = rw (← c.new-record.ensures, sym c.in_range.ensures ∙ c.if-in_range.false) c.no_situation.ensures

@@ -1,8 +1,5 @@
-use Prim.Native.Nat.{◌≤◌, ◌-◌}
+use Rattle.std.proofs.Common.{◌≤◌}
 use Rattle.vectors.proofs.run_cases.Given as goal
 
-abbrev pub invariant-loop-cases : goal.invariant-loop-cases
-invariant-loop-cases l = (l.cases ≤ 1000000) × (l.wrong ≤ l.cases)
-
-abbrev pub decreases-loop-cases : goal.decreases-loop-cases
-decreases-loop-cases l = 1000000 - l.cases
+abbrev pub invariant-loop-before : goal.invariant-loop-before
+invariant-loop-before l = l.wrong ≤ l.before

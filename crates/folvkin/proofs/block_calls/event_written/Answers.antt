@@ -3,6 +3,7 @@ use mathlib.Core.Path.{refl, sym, ap, ◌∙◌}
 use mathlib.Core.List.{List}
 use native.Mathlib.Omega.{arith}
 use lib.ListN.{length, take}
+use Rattle.block.proofs.Told.{not_accepted}
 use Rattle.rulebook.specs.Situation.{Kept}
 use Rattle.rulebook.specs.Apply.{reached}
 use Rattle.rulebook.specs.Names.{name}
@@ -16,19 +17,21 @@ use Rattle.folvkin.proofs.RoomLeft.{room_enough, record_fits}
 use Rattle.folvkin.proofs.CallsTold.{refused_told, refused_room, accepted_told, accepted_room}
 use Rattle.folvkin.proofs.block_calls.event_written.Goals as goal
 
-pub returns-then-refusal-ne-ACCEPTED : goal.returns-then-refusal-ne-ACCEPTED
-returns-then-refusal-ne-ACCEPTED c =
+pub returns-in-Err-clause-value : goal.returns-in-Err-clause-value
+returns-in-Err-clause-value c =
     let a = c.args in
-    let after = record_after a.plan (unpacked a.x) a.event in
-    let t = sym c.tried_refusal-refusal.ensures in
-    let z = c.if-refusal-ne-ACCEPTED.true in
-    record { value = refused_told t z after (name a.plan (unpacked a.x) a.event) c.name_of-name.ensures; room_after = refused_room t z after a.room.now }
+    rw (c.from.ensures, c.from-in-Err.ensures)
+    (refused_told (sym (c.from-number.ensures ∙ c.in-Err.ensures)) (λ z. not_accepted _ (sym c.from-number.ensures ∙ z)) (record_after a.plan (unpacked a.x) a.event) (name a.plan (unpacked a.x) a.event) c.name_of-name.ensures)
+
+pub returns-in-Err-clause-room_after : goal.returns-in-Err-clause-room_after
+returns-in-Err-clause-room_after c =
+    let a = c.args in
+    refused_room (sym c.in-Err.ensures) (not_accepted _) (record_after a.plan (unpacked a.x) a.event) a.room.now
 
 pub put_situation-length-requires : goal.put_situation-length-requires
 put_situation-length-requires c =
     let a = c.args in
-    let t = sym c.tried_refusal-refusal.ensures ∙ c.if-refusal-ne-ACCEPTED.false in
-    omega (arith, room_enough a.plan (unpacked a.x) a.event (length a.room.now) t, (size_between (codes_of (unpacked c.next.result))).1)
+    omega (arith, room_enough a.plan (unpacked a.x) a.event (length a.room.now) (sym c.in_default.ensures), (size_between (codes_of (unpacked c.next.result))).1)
 
 pub overflow_mul-result-2 : goal.overflow_mul-result-2
 overflow_mul-result-2 c = omega (arith, c.put_situation-length.ensures.value, (size_between (codes_of (unpacked c.next.result))).1)
@@ -37,7 +40,7 @@ pub returns : goal.returns
 returns c =
     let a = c.args in
     let room = a.room.now in
-    let t = sym c.tried_refusal-refusal.ensures ∙ c.if-refusal-ne-ACCEPTED.false in
+    let t = sym c.in_default.ensures in
     let next = c.next.ensures in
     let put = c.put_situation-length.ensures in
     let codes = codes_of (reached a.plan (unpacked a.x) a.event) in

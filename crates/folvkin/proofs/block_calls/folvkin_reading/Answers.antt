@@ -1,25 +1,15 @@
-use Prim.Native.Nat.{◌+◌, ◌*◌}
-use mathlib.Core.Path.{sym, ap, ◌∙◌}
+use mathlib.Core.Path.{◌≡◌, ap, ◌∙◌}
+use native.Mathlib.Omega.{arith}
 use borrow.Author.Tests.{eq-eqb}
-use Rattle.signals.specs.declared.readings.Told.{Told}
-use Rattle.paper.proofs.GivenThere.{found, is_given}
+use Prim.Native.Nat.{ℕ, ◌*◌}
+use Rattle.signals.specs.Readings.{told}
+use Rattle.folvkin.specs.Block.{packed}
 use Rattle.folvkin.proofs.block_calls.folvkin_reading.Goals as goal
 
-pub plan_in-requires : goal.plan_in-requires
-plan_in-requires c =
-    let ps = c.args.plan.now in
-    let ss = c.args.situation.now in
-    (found ps ss (sym c.both_given.ensures ∙ c.if-not-both_given.false)).plan
+value_told : (n : ℕ) → 256 * n ≡ packed (told n)
+value_told n = omega arith
 
-pub situation_in-requires : goal.situation_in-requires
-situation_in-requires c =
-    let ps = c.args.plan.now in
-    let ss = c.args.situation.now in
-    (found ps ss (sym c.both_given.ensures ∙ c.if-not-both_given.false)).situation
-
-pub returns : goal.returns
-returns c =
-    let ps = c.args.plan.now in
-    let ss = c.args.situation.now in
-    let g = is_given ps ss c.both_given.ensures (c.if-not-both_given.false) c.plan_in.ensures c.situation_in.ensures in
-    rw (g, eq-eqb _ _ c.if-kind_and_argument-ne2.false) (ap (λ (t : Told). t.refusal + 256 * t.value) c.reading-told.ensures)
+pub returns-in-Ok : goal.returns-in-Ok
+returns-in-Ok c =
+    rw (← c.in-Some.ensures, eq-eqb _ _ c.if-kind_and_argument-ne2.false)
+    (ap (λ (n : ℕ). 256 * n) c.from-in-Ok.ensures ∙ value_told c.in-Ok.value ∙ ap packed c.in-Ok.ensures)

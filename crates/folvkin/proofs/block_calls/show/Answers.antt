@@ -16,6 +16,7 @@ returns c =
     let to-a = c.all_lights-to_a in
     let first = c.show_direction in
     let second = c.show_direction-2 in
-    onto to-b.result to-a.result n room first.new.room second.new.room c.requires.1 first.ensures second.ensures
+    rw c.from-at.ensures
+    (onto to-b.result to-a.result n room first.new.room second.new.room c.requires.1 first.ensures (rw c.from-at.ensures at second.ensures)
     ∙ ap (λ (l : List ℕ). l ++ drop (n + n) room)
-    (all_shown a.plan (unpacked a.x) c.requires.0 to-b.result to-a.result to-b.ensures to-a.ensures)
+    (all_shown a.plan (unpacked a.x) c.requires.0 to-b.result to-a.result to-b.ensures to-a.ensures))

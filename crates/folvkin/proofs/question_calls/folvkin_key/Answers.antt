@@ -9,14 +9,14 @@ use Rattle.folvkin.proofs.question_calls.folvkin_key.Goals as goal
 at_most : {f g : Fetch} → f ≡ g → g.part.count ≤ 271453 → f.part.count ≤ 271453
 at_most e h = subst (λ (f : Fetch). f.part.count ≤ 271453) (sym e) h
 
-pub overflow_mul-result-2 : goal.overflow_mul-result-2
-overflow_mul-result-2 c =
+pub overflow_mul-result-in-Ok : goal.overflow_mul-result-in-Ok
+overflow_mul-result-in-Ok c =
     let a = c.args in
-    let few : c.key-part.result.count ≤ 271453 = at_most c.key-part.ensures (count_bounded a.bytes.now a.after.now a.room.now) in
+    let few : c.in-Ok.part.count ≤ 271453 = at_most c.in-Ok.ensures (count_bounded a.bytes.now a.after.now a.room.now) in
     search rules
 
-pub overflow_add-result-2 : goal.overflow_add-result-2
-overflow_add-result-2 c =
+pub overflow_add-result : goal.overflow_add-result
+overflow_add-result c =
     let a = c.args in
-    let few : c.key-part.result.count ≤ 271453 = at_most c.key-part.ensures (count_bounded a.bytes.now a.after.now a.room.now) in
+    let few : c.in-Ok.part.count ≤ 271453 = at_most c.in-Ok.ensures (count_bounded a.bytes.now a.after.now a.room.now) in
     search rules

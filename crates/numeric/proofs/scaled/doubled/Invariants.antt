@@ -1,10 +1,7 @@
--- `doubled`: what is left to double gives what was asked; from 2^44 on it is held.
+-- `doubled`: what is left to double gives what was asked.
 use mathlib.Core.Path.{◌≡◌}
-use Prim.Native.Nat.{◌*◌, ◌^◌}
+use Prim.Native.Nat.{◌-◌, ◌*◌, ◌^◌}
 use Rattle.numeric.proofs.scaled.doubled.Given as goal
 
-abbrev pub invariant-loop-left : goal.invariant-loop-left
-invariant-loop-left l = l.m * 2 ^ l.left ≡ l.n * 2 ^ l.k
-
-abbrev pub decreases-loop-left : goal.decreases-loop-left
-decreases-loop-left l = l.left
+abbrev pub invariant-loop-done : goal.invariant-loop-done
+invariant-loop-done l = l.m * 2 ^ (l.k - l._done) ≡ l.n * 2 ^ l.k

@@ -1,43 +1,49 @@
 -- `halved_down`: the halvings that are left give what was asked; below the lower side they change nothing in the quotient.
-use mathlib.Core.Path.{◌≡◌, ap, ◌∙◌}
-use Prim.Native.Nat.{ℕ, ◌+◌, ◌-◌, ◌/◌, ◌^◌, ◌<◌}
-use native.Mathlib.Nat.{div-div-eq-div-mul}
+use mathlib.Core.Path.{◌≡◌, sym, ap, ◌∙◌}
+use Prim.Native.Nat.{ℕ, ◌-◌, ◌*◌, ◌/◌, ◌^◌}
+use native.Mathlib.Nat.{div-div-eq-div-mul, mul-pos}
 use native.Mathlib.Omega.{arith}
 use lib.Pow.{pow_pos}
-use Rattle.numeric.proofs.Stepping.{up, up_up, div_step, up_step, div_done, up_done, low_below, high_below}
+use Rattle.std.specs.Int.{div_ceil}
+use Rattle.numeric.proofs.Stepping.{up, up_up, ceil_is, div_on, up_on, div_done, up_done, low_below, high_below, lower_is}
 use Rattle.numeric.proofs.scaled.halved_down.Goals.{else-loop-at-test, then-loop-at-test+then-low-lower}
 use Rattle.numeric.proofs.scaled.halved_down.Goals as goal
-
-left : (at to : ℕ) → to < at → 0 < at - to
-left at to h = omega arith
-
-one_less : (at to : ℕ) → at - 1 - to ≡ at - to - 1
-one_less at to = omega arith
 
 pub loop-at-preserved : goal.loop-at-preserved
 loop-at-preserved c =
     let l = c.loop-at in
-    let to = c.args.to in
-    let some = left l.at to c.loop-at-test.true in
-    let less = one_less l.at to in (
-      ap (λ (z : ℕ). l.low / 2 / 2 ^ z) less ∙ div_step l.low (l.at - to) some ∙ l.invariant.0,
-      ap (λ (z : ℕ). up ((l.high + 1) / 2) (2 ^ z)) less ∙ up_step l.high (l.at - to) some ∙ l.invariant.1,
-      omega (arith, l.invariant.2),
-      omega (arith, l.invariant.3),
-    )
+    let a = c.args in
+    record {
+      low_left = div_on l.low a.k l._at (a.upper / 2 ^ (a.k - a.to)) (omega arith) l.invariant.low_left;
+      high_left = up_on l.high c.div_ceil-high.result a.k l._at (up a.upper (2 ^ (a.k - a.to))) c.div_ceil-high.ensures (omega arith) l.invariant.high_left;
+      held = omega arith;
+      near = omega arith;
+    }
 
-pub returns : goal.returns
-returns c =
+pub returns-clause-low : goal.returns-clause-low
+returns-clause-low c =
     let l = c.loop-at in
     let a = c.args in
-    let d = l.at - a.to in
-    let some : 0 < a.lower = omega (arith, c.requires.1) in
-    let still : (l.low / a.lower ≡ l.low / 2 ^ d / a.lower) × (up l.high a.lower ≡ up (up l.high (2 ^ d)) a.lower) = elim c.loop-at-test.branch [
-      | else-loop-at-test w ↦ (let none : d ≡ 0 = omega (arith, w.loop-at-test) in
-          (ap (λ (z : ℕ). z / a.lower) (div_done l.low d none), ap (λ (z : ℕ). up z a.lower) (up_done l.high d none)))
-      | then-loop-at-test+then-low-lower w ↦ (let under : l.low < a.lower = omega (arith, w.if-low-lower) in
-          (low_below l.low d a.lower under, high_below l.high d a.lower some (omega (arith, under, l.invariant.3))))
-    ] in (
-      still.0 ∙ ap (λ (z : ℕ). z / a.lower) l.invariant.0 ∙ div-div-eq-div-mul a.upper (2 ^ (a.k - a.to)) a.lower,
-      still.1 ∙ ap (λ (z : ℕ). up z a.lower) l.invariant.1 ∙ up_up a.upper (2 ^ (a.k - a.to)) a.lower (pow_pos (a.k - a.to)) some,
-    )
+    let d = a.k - l._at in
+    let still : l.low / 2 ^ a.to ≡ l.low / 2 ^ d / 2 ^ a.to = elim c.loop-at-test.branch [
+      | else-loop-at-test w ↦ (let none : d ≡ 0 = omega (arith, w.loop-at-test) in ap (λ (z : ℕ). z / 2 ^ a.to) (div_done l.low d none))
+      | then-loop-at-test+then-low-lower w ↦ low_below l.low d (2 ^ a.to) (omega (arith, w.if-low-lower, lower_is a.to c.requires.few))
+    ] in
+    rw (lower_is a.to c.requires.few) (still ∙ ap (λ (z : ℕ). z / 2 ^ a.to) l.invariant.low_left ∙ div-div-eq-div-mul a.upper (2 ^ (a.k - a.to)) (2 ^ a.to))
+
+pub returns-clause-high : goal.returns-clause-high
+returns-clause-high c =
+    let l = c.loop-at in
+    let a = c.args in
+    let d = a.k - l._at in
+    let still : up l.high (2 ^ a.to) ≡ up (up l.high (2 ^ d)) (2 ^ a.to) = elim c.loop-at-test.branch [
+      | else-loop-at-test w ↦ (let none : d ≡ 0 = omega (arith, w.loop-at-test) in ap (λ (z : ℕ). up z (2 ^ a.to)) (up_done l.high d none))
+      | then-loop-at-test+then-low-lower w ↦ high_below l.high d (2 ^ a.to) (pow_pos a.to) (omega (arith, w.if-low-lower, lower_is a.to c.requires.few, l.invariant.near))
+    ] in
+    c.div_ceil.ensures
+    ∙ ap (λ (z : ℕ). div_ceil l.high z) (lower_is a.to c.requires.few)
+    ∙ ceil_is l.high (2 ^ a.to) (pow_pos a.to)
+    ∙ still
+    ∙ ap (λ (z : ℕ). up z (2 ^ a.to)) l.invariant.high_left
+    ∙ up_up a.upper (2 ^ (a.k - a.to)) (2 ^ a.to) (pow_pos (a.k - a.to)) (pow_pos a.to)
+    ∙ sym (ceil_is a.upper (2 ^ (a.k - a.to) * 2 ^ a.to) (mul-pos (pow_pos (a.k - a.to)) (pow_pos a.to)))

@@ -5,8 +5,9 @@ use Rattle.numeric.proofs.Stepping.{up}
 use Rattle.numeric.proofs.scaled.halved_down.Given as goal
 
 abbrev pub invariant-loop-at : goal.invariant-loop-at
-invariant-loop-at l =
-    (l.low / 2 ^ (l.at - l.to) ≡ l.upper / 2 ^ (l.k - l.to)) × (up l.high (2 ^ (l.at - l.to)) ≡ up l.upper (2 ^ (l.k - l.to))) × (l.low ≤ 2 ^ 52) × (l.high ≤ l.low + 1)
-
-abbrev pub decreases-loop-at : goal.decreases-loop-at
-decreases-loop-at l = l.at
+invariant-loop-at l = record {
+  low_left : l.low / 2 ^ (l.k - l._at) ≡ l.upper / 2 ^ (l.k - l.to);
+  high_left : up l.high (2 ^ (l.k - l._at)) ≡ up l.upper (2 ^ (l.k - l.to));
+  held : l.low ≤ 2 ^ 52;
+  near : l.high ≤ l.low + 1;
+}

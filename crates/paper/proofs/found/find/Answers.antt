@@ -1,128 +1,43 @@
+use mathlib.Core.Path.{refl}
 use native.Mathlib.Omega.{arith}
-use borrow.Author.Tests.{not-true, not-false}
-use Rattle.paper.proofs.FoundThere.{none_lies, situation_long, lost, is_one, within, by_judged, by_lists, all_lie}
+use Rattle.block.proofs.Told.{not_accepted}
+use Rattle.records.proofs.Lies.{lies}
+use Rattle.paper.proofs.FoundThere.{lost, events_whole, readings_whole, at_most_12, counted, by_judged, by_lists, all_found, accepted}
+use borrow.Author.Rules.{rules}
 use Rattle.paper.proofs.found.find.Goals as goal
 
-pub returns-then-not-at : goal.returns-then-not-at
-returns-then-not-at c = rw c.none.ensures (none_lies 20 _ (lost _ _ c.where_laid-at.ensures ((not-true _ c.if-not-at.true))))
+pub returns-in_default : goal.returns-in_default
+returns-in_default c = lost _ c.in_default.ensures
 
 pub plan_in-plan-requires : goal.plan_in-plan-requires
-plan_in-plan-requires c =
-    let s = c.args.bytes.now in
-    let i = is_one s _ c.where_laid-at.ensures ((not-false _ c.if-not-at.false)) in
-    (within s _ i).plan
-
-pub slice_bounds-situation_in-end : goal.slice_bounds-situation_in-end
-slice_bounds-situation_in-end c =
-    let s = c.args.bytes.now in
-    let i = is_one s _ c.where_laid-at.ensures ((not-false _ c.if-not-at.false)) in
-    let w = within s _ i in
-    omega (arith, w.situation, w.events, w.readings, w.length)
+plan_in-plan-requires c = (lies _ _ c.in-Some.ensures).plan_long
 
 pub situation_in-situation-requires : goal.situation_in-situation-requires
-situation_in-situation-requires c =
-    let s = c.args.bytes.now in
-    let i = is_one s _ c.where_laid-at.ensures ((not-false _ c.if-not-at.false)) in
-    situation_long s _ i
+situation_in-situation-requires c = (lies _ _ c.in-Some.ensures).situation_long
 
-pub returns-then-refusal-ne-ACCEPTED : goal.returns-then-refusal-ne-ACCEPTED
-returns-then-refusal-ne-ACCEPTED c =
-    let s = c.args.bytes.now in
-    let i = is_one s _ c.where_laid-at.ensures ((not-false _ c.if-not-at.false)) in
-    rw c.none-then-refusal-ne-ACCEPTED.ensures (none_lies _ s (by_judged s _ i c.plan_in-plan.ensures c.situation_in-situation.ensures c.judged-refusal.ensures c.if-refusal-ne-ACCEPTED.true))
+pub returns-in_err-judged : goal.returns-in_err-judged
+returns-in_err-judged c =
+    let first = by_judged _ _ (lies _ _ c.in-Some.ensures) _ _ c.plan_in-plan.ensures c.situation_in-situation.ensures c.in_err-judged.ensures (not_accepted _) in
+    search rules
 
-pub overflow_add-events : goal.overflow_add-events
-overflow_add-events c =
-    let s = c.args.bytes.now in
-    let i = is_one s _ c.where_laid-at.ensures ((not-false _ c.if-not-at.false)) in
-    let w = within s _ i in
-    omega (arith, w.situation, w.events, w.readings, w.length)
+pub returns-in_err-lists_refusal : goal.returns-in_err-lists_refusal
+returns-in_err-lists_refusal c =
+    let first = by_lists _ _ (lies _ _ c.in-Some.ensures) _ _ c.plan_in-plan.ensures c.situation_in-situation.ensures c.in_ok-judged.ensures c.in_err-lists_refusal.ensures (not_accepted _) in
+    search rules
 
-pub overflow_add-readings : goal.overflow_add-readings
-overflow_add-readings c =
-    let s = c.args.bytes.now in
-    let i = is_one s _ c.where_laid-at.ensures ((not-false _ c.if-not-at.false)) in
-    let w = within s _ i in
-    omega (arith, w.situation, w.events, w.readings, w.length)
+pub overflow_cast-result : goal.overflow_cast-result
+overflow_cast-result c = let i = lies _ _ c.in-Some.ensures in omega (arith, counted _ _ i, at_most_12 _ _ i)
 
-pub overflow_add-length : goal.overflow_add-length
-overflow_add-length c =
-    let s = c.args.bytes.now in
-    let i = is_one s _ c.where_laid-at.ensures ((not-false _ c.if-not-at.false)) in
-    let w = within s _ i in
-    omega (arith, w.situation, w.events, w.readings, w.length)
-
-pub bounds-bytes-ln : goal.bounds-bytes-ln
-bounds-bytes-ln c =
-    let s = c.args.bytes.now in
-    let i = is_one s _ c.where_laid-at.ensures ((not-false _ c.if-not-at.false)) in
-    let w = within s _ i in
-    omega (arith, w.situation, w.events, w.readings, w.length)
-
-pub slice_bounds-lists_refusal-count : goal.slice_bounds-lists_refusal-count
-slice_bounds-lists_refusal-count c =
-    let s = c.args.bytes.now in
-    let i = is_one s _ c.where_laid-at.ensures ((not-false _ c.if-not-at.false)) in
-    let w = within s _ i in
-    omega (arith, w.situation, w.events, w.readings, w.length)
-
-pub slice_bounds-lists_refusal-start : goal.slice_bounds-lists_refusal-start
-slice_bounds-lists_refusal-start c =
-    let s = c.args.bytes.now in
-    let i = is_one s _ c.where_laid-at.ensures ((not-false _ c.if-not-at.false)) in
-    let w = within s _ i in
-    omega (arith, w.situation, w.events, w.readings, w.length)
-
-pub slice_bounds-lists_refusal-end : goal.slice_bounds-lists_refusal-end
-slice_bounds-lists_refusal-end c =
-    let s = c.args.bytes.now in
-    let i = is_one s _ c.where_laid-at.ensures ((not-false _ c.if-not-at.false)) in
-    let w = within s _ i in
-    omega (arith, w.situation, w.events, w.readings, w.length)
-
-pub slice_bounds-lists_refusal-count-2 : goal.slice_bounds-lists_refusal-count-2
-slice_bounds-lists_refusal-count-2 c =
-    let s = c.args.bytes.now in
-    let i = is_one s _ c.where_laid-at.ensures ((not-false _ c.if-not-at.false)) in
-    let w = within s _ i in
-    omega (arith, w.situation, w.events, w.readings, w.length)
-
-pub slice_bounds-lists_refusal-start-2 : goal.slice_bounds-lists_refusal-start-2
-slice_bounds-lists_refusal-start-2 c =
-    let s = c.args.bytes.now in
-    let i = is_one s _ c.where_laid-at.ensures ((not-false _ c.if-not-at.false)) in
-    let w = within s _ i in
-    omega (arith, w.situation, w.events, w.readings, w.length)
-
-pub slice_bounds-lists_refusal-end-2 : goal.slice_bounds-lists_refusal-end-2
-slice_bounds-lists_refusal-end-2 c =
-    let s = c.args.bytes.now in
-    let i = is_one s _ c.where_laid-at.ensures ((not-false _ c.if-not-at.false)) in
-    let w = within s _ i in
-    omega (arith, w.situation, w.events, w.readings, w.length)
-
-pub returns-then-refusal-ne-ACCEPTED-2 : goal.returns-then-refusal-ne-ACCEPTED-2
-returns-then-refusal-ne-ACCEPTED-2 c =
-    let s = c.args.bytes.now in
-    let i = is_one s _ c.where_laid-at.ensures ((not-false _ c.if-not-at.false)) in
-    rw c.none-then-refusal-ne-ACCEPTED-2.ensures (none_lies _ s (by_lists s _ i c.plan_in-plan.ensures c.situation_in-situation.ensures c.judged-refusal.ensures c.if-refusal-ne-ACCEPTED.false c.lists_refusal-refusal.ensures c.if-refusal-ne-ACCEPTED-2.true))
-
-pub overflow_add-result : goal.overflow_add-result
-overflow_add-result c =
-    let s = c.args.bytes.now in
-    let i = is_one s _ c.where_laid-at.ensures ((not-false _ c.if-not-at.false)) in
-    let w = within s _ i in
-    omega (arith, w.situation, w.events, w.readings, w.length)
-
-pub bounds-bytes-ev : goal.bounds-bytes-ev
-bounds-bytes-ev c =
-    let s = c.args.bytes.now in
-    let i = is_one s _ c.where_laid-at.ensures ((not-false _ c.if-not-at.false)) in
-    let w = within s _ i in
-    omega (arith, w.situation, w.events, w.readings, w.length)
+pub invariant_of-result : goal.invariant_of-result
+invariant_of-result c =
+    let i = lies _ _ c.in-Some.ensures in
+    record {
+      accepted = accepted _ _ i _ _ c.plan_in-plan.ensures c.situation_in-situation.ensures c.in_ok-judged.ensures c.in_ok-lists_refusal.ensures refl;
+      counted = counted _ _ i;
+      events_whole = events_whole _ _ i;
+      readings_whole = readings_whole _ _ i;
+    }
 
 pub returns : goal.returns
 returns c =
-    let s = c.args.bytes.now in
-    let i = is_one s _ c.where_laid-at.ensures ((not-false _ c.if-not-at.false)) in
-    all_lie s _ i c.plan_in-plan.ensures c.situation_in-situation.ensures c.judged-refusal.ensures c.if-refusal-ne-ACCEPTED.false c.lists_refusal-refusal.ensures c.if-refusal-ne-ACCEPTED-2.false
+    all_found _ _ (lies _ _ c.in-Some.ensures) _ _ c.plan_in-plan.ensures c.situation_in-situation.ensures c.in_ok-judged.ensures c.in_ok-lists_refusal.ensures refl

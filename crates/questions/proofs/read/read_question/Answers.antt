@@ -1,12 +1,17 @@
 use native.Mathlib.Omega.{arith}
-use Rattle.questions.proofs.ReadFound.{zeros_read, few_events, few_readings}
+use Rattle.questions.proofs.ReadFound.{few_events, few_readings, items_read, zeros_read}
 use Rattle.questions.proofs.read.read_question.Goals as goal
 
-pub returns-then-at-ne-ACCEPTED : goal.returns-then-at-ne-ACCEPTED
-returns-then-at-ne-ACCEPTED c = record { result_value = zeros_read c.find-at.result c.args.bytes.now c.find-at.ensures.0 _ c.zeros.ensures.result_value c.if-at-ne-ACCEPTED.true; events_value = c.zeros.ensures.events_value }
+pub new-requires : goal.new-requires
+new-requires c = (omega arith, (omega arith, few_events c.in_ok-found.found))
 
-pub items-events-requires : goal.items-events-requires
-items-events-requires c = (omega arith, few_events c.find-at.result c.args.bytes.now c.find-at.ensures.0 c.if-at-ne-ACCEPTED.false)
+pub new-requires-2 : goal.new-requires-2
+new-requires-2 c = (omega arith, (omega arith, few_readings c.in_ok-found.found))
 
-pub items-readings-requires : goal.items-readings-requires
-items-readings-requires c = (omega arith, few_readings c.find-at.result c.args.bytes.now c.find-at.ensures.0 c.if-at-ne-ACCEPTED.false)
+pub returns : goal.returns
+returns c =
+    let a = c.in_ok-found.found in
+    record {
+      result_value = items_read a _ _ c.new.ensures c.new-2.ensures _ c.in_ok-found.ensures;
+      events_value = zeros_read a _ _ c.new.ensures c.new-2.ensures;
+    }

@@ -1,5 +1,5 @@
 use Prim.Native.Nat.{ℕ, ◌+◌, ◌*◌, ◌≤◌}
-use mathlib.Core.Path.{◌≡◌, sym, ◌∙◌}
+use mathlib.Core.Path.{◌≡◌, sym}
 use native.Mathlib.Omega.{arith}
 use lib.ListN.{length}
 use Rattle.situation.specs.Packed.{unpacked}
@@ -17,6 +17,8 @@ use Rattle.questions.proofs.CountedItems.{events_many, readings_many}
 use Rattle.questions.proofs.AcceptedQuestions.{plan_is_one, situation_is_sound, events_counted, readings_counted}
 use Rattle.questions.proofs.WritingTells.{tells_its_refusal, tells_short_room, tells_length}
 use Rattle.questions.proofs.WrittenIsRead.{written_is_whole}
+use Rattle.block.proofs.Told.{not_accepted}
+use borrow.Author.Rules.{rules}
 use Rattle.questions.proofs.write.write_question.Goals as goal
 
 -- the codes of the situation that is asked
@@ -36,10 +38,10 @@ plan_small q e = omega (arith, e, (plan_size_between q.plan).1)
 record_small : (q : Packed) {n : ℕ} → n ≡ situation_size (codes q) → n ≤ 23
 record_small q e = omega (arith, e, (size_between (codes q)).1)
 
-pub returns-then-refusal-ne-ACCEPTED : goal.returns-then-refusal-ne-ACCEPTED
-returns-then-refusal-ne-ACCEPTED c =
-    let t = tells_its_refusal (asked c.args.q) c.args.room.now c.refusal_of-refusal.result c.refusal_of-refusal.ensures c.if-refusal-ne-ACCEPTED.true in
-    record { value = t.0; room_after = t.1 }
+pub returns-in_err-refusal_of : goal.returns-in_err-refusal_of
+returns-in_err-refusal_of c =
+    let t = tells_its_refusal (asked c.args.q) c.args.room.now _ c.in_err-refusal_of.ensures (not_accepted _) in
+    record { value = search rules; room_after = search rules }
 
 pub overflow_add-size : goal.overflow_add-size
 overflow_add-size c = omega (arith, plan_small c.args.q c.plan_size.ensures)
@@ -52,33 +54,34 @@ overflow_add-size-2 c =
 pub overflow_add-size-3 : goal.overflow_add-size-3
 overflow_add-size-3 c =
     let q = c.args.q in
-    omega (arith, plan_small q c.plan_size.ensures, record_small q c.record_size.ensures, c.wide-2.ensures.1, c.wide.ensures.1)
+    omega (arith, plan_small q c.plan_size.ensures, record_small q c.record_size.ensures, c.from.ensures, c.from-2.ensures)
 
 pub returns-then-room-size : goal.returns-then-room-size
 returns-then-room-size c =
     let s = c.args in
-    let ok = sym c.refusal_of-refusal.ensures ∙ c.if-refusal-ne-ACCEPTED.false in
+    let ok = sym c.in_ok-refusal_of.ensures in
     let t = tells_short_room (asked s.q) s.room.now ok
-    (omega (arith, asked_long s.q ok, c.record_size.ensures, c.plan_size.ensures, c.wide-2.ensures, c.wide.ensures)) in
+    (omega (arith, asked_long s.q ok, c.record_size.ensures, c.plan_size.ensures, c.from.ensures, c.from-2.ensures)) in
     record { value = t.0; room_after = t.1 }
 
-pub put_question-length-requires : goal.put_question-length-requires
-put_question-length-requires c =
+pub put_question-requires : goal.put_question-requires
+put_question-requires c =
     let q = c.args.q in
-    let z = sym c.refusal_of-refusal.ensures ∙ c.if-refusal-ne-ACCEPTED.false in record {
+    let ok = sym c.in_ok-refusal_of.ensures in
+    record {
       count_bound = (
-        omega (arith, events_counted (asked q) z, events_many q.events),
-        omega (arith, readings_counted (asked q) z, readings_many q.readings),
-        codes_fit q.plan (unpacked q.situation) (plan_is_one (asked q) z) (situation_is_sound (asked q) z),
+        omega (arith, events_counted (asked q) ok, events_many q.events),
+        omega (arith, readings_counted (asked q) ok, readings_many q.readings),
+        codes_fit q.plan (unpacked q.situation) (plan_is_one (asked q) ok) (situation_is_sound (asked q) ok),
       );
-      count_in_bounds = omega (arith, c.record_size.ensures, c.plan_size.ensures, c.wide-2.ensures, c.wide.ensures);
+      count_in_bounds = omega (arith, c.record_size.ensures, c.plan_size.ensures, c.from.ensures, c.from-2.ensures);
     }
 
 pub returns : goal.returns
 returns c =
     let s = c.args in
-    let ok = sym c.refusal_of-refusal.ensures ∙ c.if-refusal-ne-ACCEPTED.false in
-    let put = c.put_question-length.ensures in
+    let ok = sym c.in_ok-refusal_of.ensures in
+    let put = c.put_question.ensures in
     let t = tells_length (asked s.q) s.room.now ok
-    (omega (arith, asked_long s.q ok, c.record_size.ensures, c.plan_size.ensures, c.wide-2.ensures, c.wide.ensures)) in
+    (omega (arith, asked_long s.q ok, c.record_size.ensures, c.plan_size.ensures, c.from.ensures, c.from-2.ensures)) in
     record { value = rw put.value t.0; room_after = rw put.room_after t.1 }

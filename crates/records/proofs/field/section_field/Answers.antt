@@ -1,40 +1,30 @@
 -- Assumes nothing.
-use mathlib.Core.Path.{◌≡◌, sym, ◌∙◌}
-use Prim.Native.Nat.{◌-◌, ◌≤◌}
 use native.Mathlib.Omega.{arith}
 use borrow.Author.Rules.{rules}
-use borrow.Author.Tests.{ltb-true}
-use lib.ListN.{drop, length-drop}
-use lib.Seq.{get_or-drop}
-use Rattle.forms.specs.Taken.{value}
-use Rattle.forms.proofs.Fields.{section_law}
-use Rattle.forms.proofs.Sizes.{bytes_on}
+use lib.ListN.{length}
+use Rattle.std.proofs.lemmas.Iterator.Adapters.{YieldsList-from_rev_slice}
+use Rattle.std.proofs.lemmas.Iterator.Consumers.{YieldsList-turn, YieldsList-end}
+use Rattle.std.proofs.lemmas.List.{length_push}
 use Rattle.records.proofs.Fronts.{bytes_of}
-use Rattle.records.proofs.FieldRead.{field_turn, field_fits}
+use Rattle.records.proofs.FieldRead.{field_turn, field_whole, field_fits}
 use Rattle.records.proofs.field.section_field.Goals as goal
 
 pub overflow_mul-m : goal.overflow_mul-m
-overflow_mul-m c =
-    let k : c.args.width - c.loop-i.i ≤ 7 = omega arith in
-    omega (arith, field_fits (c.args.width - c.loop-i.i) c.loop-i.m _ _ k c.loop-i.invariant.1)
+overflow_mul-m c = omega (arith, field_fits (length c.loop-byte.yielded) c.loop-byte.m _ _ (omega arith) c.loop-byte.invariant.1)
 
 pub overflow_add-m : goal.overflow_add-m
-overflow_add-m c =
-    let k : c.args.width - c.loop-i.i ≤ 7 = omega arith in
-    omega (arith, field_fits (c.args.width - c.loop-i.i) c.loop-i.m _ _ k c.loop-i.invariant.1)
+overflow_add-m c = omega (arith, field_fits (length c.loop-byte.yielded) c.loop-byte.m _ _ (omega arith) c.loop-byte.invariant.1)
 
-pub loop-i-preserved : goal.loop-i-preserved
-loop-i-preserved c =
-    let a = c.args in
-    let t = drop a.at a.s.now in
-    (omega arith, field_turn a.width c.loop-i.i c.loop-i.m _ t _ c.loop-i-test.true c.loop-i.invariant.0 (omega (arith, length-drop a.at a.s.now)) (bytes_on a.at a.s.now (bytes_of a.s.now (search rules))) (c.digit.ensures ∙ sym (get_or-drop a.at a.s.now (c.loop-i.i - 1) 0)) c.loop-i.invariant.1)
+pub loop-byte-preserved : goal.loop-byte-preserved
+loop-byte-preserved c =
+    let s = c.args.field.now in
+    let t = YieldsList-turn (YieldsList-from_rev_slice s cc) c.loop-byte.yielded _ c.loop-byte.yielded_by _ _ c.in-Some.field-0 c.in-Some.is c.next.ensures.steps in
+    rw (length_push c.loop-byte.yielded c.in-Some.field-0, c.from.ensures)
+    (field_turn (length c.loop-byte.yielded) c.loop-byte.m c.in-Some.field-0.now s _ t (bytes_of s (search rules)) c.loop-byte.invariant.1)
 
 pub returns : goal.returns
-unfolding value
 returns c =
-    let a = c.args in
-    let t = drop a.at a.s.now in
-    let i : c.loop-i.i ≡ 0 = omega arith in
-    let w : a.width - 0 ≡ a.width = omega arith in
-    let e = rw (i, w) at c.loop-i.invariant.1 in
-    (rw e, ltb-true _ _ ((section_law a.width).one t c.loop-i.m (drop a.width t) e).0)
+    let s = c.args.field.now in
+    let e = YieldsList-end (YieldsList-from_rev_slice s cc) c.loop-byte.yielded _ c.loop-byte.yielded_by _ _ c.in-None.is c.next.ensures.steps in
+    let w = field_whole (length c.loop-byte.yielded) c.loop-byte.m s _ e.1 c.loop-byte.invariant.1 in
+    record { value = w.0; fits = w.1 }

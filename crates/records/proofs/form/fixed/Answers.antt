@@ -9,8 +9,8 @@ overflow_add-result c = omega (arith, stands_long _ _ _ (sym c.stands.ensures �
 
 pub returns-then-stands : goal.returns-then-stands
 unfolding fixed
-returns-then-stands c = let t = sym c.stands.ensures ∙ c.if-stands.true in (rw t, stands_long _ _ _ t)
+returns-then-stands c = let t = sym c.stands.ensures ∙ c.if-stands.true in (rw t, omega arith, stands_long _ _ _ t)
 
 pub returns : goal.returns
 unfolding fixed
-returns c = (rw (sym c.stands.ensures ∙ c.if-stands.false), omega arith)
+returns c = rw (sym c.stands.ensures ∙ c.if-stands.false)

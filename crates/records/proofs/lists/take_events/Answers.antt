@@ -1,8 +1,7 @@
-use mathlib.Core.Path.{sym, ◌∙◌}
 use borrow.Author.Rules.{rules}
 use Rattle.records.proofs.Fronts.{bytes_of}
 use Rattle.records.proofs.Records.{events_taken}
 use Rattle.records.proofs.lists.take_events.Goals as goal
 
 pub returns : goal.returns
-returns c = let s = c.args.s.now in (c.counted.ensures.0 ∙ sym (events_taken s (bytes_of s (search rules))), c.counted.ensures.1)
+returns c = let s = c.args.s.now in rw (events_taken s (bytes_of s (search rules))) c.counted.ensures

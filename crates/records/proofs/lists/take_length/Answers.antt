@@ -1,8 +1,7 @@
-use mathlib.Core.Path.{sym, ◌∙◌}
 use borrow.Author.Rules.{rules}
 use Rattle.records.proofs.Fronts.{bytes_of}
 use Rattle.records.proofs.Records.{length_taken}
 use Rattle.records.proofs.lists.take_length.Goals as goal
 
 pub returns : goal.returns
-returns c = let s = c.args.s.now in (c.fixed.ensures.0 ∙ sym (length_taken s (bytes_of s (search rules))), c.fixed.ensures.1)
+returns c = let s = c.args.s.now in rw (length_taken s (bytes_of s (search rules))) c.fixed.ensures

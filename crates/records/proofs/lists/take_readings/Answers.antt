@@ -1,8 +1,7 @@
-use mathlib.Core.Path.{sym, ◌∙◌}
 use borrow.Author.Rules.{rules}
 use Rattle.records.proofs.Fronts.{bytes_of}
 use Rattle.records.proofs.Records.{readings_taken}
 use Rattle.records.proofs.lists.take_readings.Goals as goal
 
 pub returns : goal.returns
-returns c = let s = c.args.s.now in (c.counted.ensures.0 ∙ sym (readings_taken s (bytes_of s (search rules))), c.counted.ensures.1)
+returns c = let s = c.args.s.now in rw (readings_taken s (bytes_of s (search rules))) c.counted.ensures

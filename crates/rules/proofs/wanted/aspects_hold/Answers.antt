@@ -1,26 +1,33 @@
--- The loop's invariant: the aspects in what is left of the readings hold exactly if all do. The measure is its length.
-use mathlib.Core.Path.{refl, sym, ◌∙◌}
+use mathlib.Core.Path.{sym, ◌∙◌}
+use native.Mathlib.Omega.{arith}
 use borrow.Author.Tests.{eq-eqb, ne_eqb}
-use Rattle.records.proofs.InBytes.{part_from}
 use Rattle.rules.proofs.ReadingSteps.{aspects_step, aspects_end}
 use Rattle.rules.proofs.wanted.aspects_hold.Goals as goal
-use Rattle.rules.proofs.wanted.aspects_hold.Goals.{then-rest-eq-ASPECT+else-aspect_of-rest, else-rest-eq-ASPECT}
+use Rattle.rules.proofs.wanted.aspects_hold.Goals.{else-reading-from-via-then-reading-from+else-from-reading, else-reading-from-via-else-reading-from}
 
-pub returns-then-aspect_of-rest : goal.returns-then-aspect_of-rest
-returns-then-aspect_of-rest c =
-    sym (sym c.loop-rest.invariant ∙ aspects_step _ _ _ c.loop-rest-test.true ∙ rw (eq-eqb _ _ c.if-rest-eq-ASPECT.true, ne_eqb _ _ (λ z. c.if-aspect_of-rest.true (c.aspect_of.ensures ∙ z))))
+pub returns-then-from-reading : goal.returns-then-from-reading
+returns-then-from-reading c =
+    let before = c.loop-reading.invariant in
+    let next = c.in-Some.ensures.steps in
+    let whole = sym before.left ∙ aspects_step _ _ _ _ _ next.1.0 (next.1.1 ∙ before.size) in
+    sym (whole ∙ rw (eq-eqb _ 1 (c.if-reading-from.true ∙ c.from.ensures), ne_eqb _ _ (λ z. c.if-from-reading.true (c.from-then-reading-from.ensures ∙ c.aspect_of.ensures ∙ z))))
 
-pub loop-rest-preserved : goal.loop-rest-preserved
-loop-rest-preserved c =
-    let whole = sym c.loop-rest.invariant ∙ aspects_step _ _ _ c.loop-rest-test.true in
-    rw part_from
-    (elim c.if-rest-eq-ASPECT.branch [
-      | then-rest-eq-ASPECT+else-aspect_of-rest w ↦ sym (whole ∙ rw (eq-eqb _ _ w.if-rest-eq-ASPECT.true, eq-eqb _ _ (sym w.aspect_of.ensures ∙ w.if-aspect_of-rest.false)))
-      | else-rest-eq-ASPECT w ↦ sym (whole ∙ rw (ne_eqb _ _ w.if-rest-eq-ASPECT.false))
-    ])
-
-pub loop-rest-init : goal.loop-rest-init
-loop-rest-init c = refl
+pub loop-reading-preserved : goal.loop-reading-preserved
+loop-reading-preserved c =
+    let before = c.loop-reading.invariant in
+    let next = c.in-Some.ensures.steps in
+    let whole = sym before.left ∙ aspects_step _ _ _ _ _ next.1.0 (next.1.1 ∙ before.size) in
+    record {
+      size = next.0 ∙ before.size;
+      left = elim c.else-reading-from.branch [
+        | else-reading-from-via-then-reading-from+else-from-reading w ↦
+            sym (whole ∙ rw (eq-eqb _ 1 (w.if-reading-from.true ∙ c.from.ensures), eq-eqb _ _ (sym (w.from-then-reading-from.ensures ∙ w.aspect_of.ensures) ∙ w.if-from-reading.false)))
+        | else-reading-from-via-else-reading-from w ↦ sym (whole ∙ rw (ne_eqb _ 1 (λ z. w.if-reading-from.false (z ∙ sym c.from.ensures))))
+      ];
+    }
 
 pub returns : goal.returns
-returns c = sym (aspects_end _ _ _ c.loop-rest-test.false) ∙ c.loop-rest.invariant
+returns c =
+    let before = c.loop-reading.invariant in
+    let ended = c.in-None.ensures.steps in
+    sym (sym before.left ∙ aspects_end _ _ _ (omega (arith, ended.1.0)))

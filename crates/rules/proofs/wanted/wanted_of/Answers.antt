@@ -1,15 +1,23 @@
--- The loop's invariant: what is left of the readings, put to what is asked so far, gives what all of them ask. The measure is its length.
-use mathlib.Core.Path.{refl, sym, ◌∙◌}
-use Rattle.records.proofs.InBytes.{part_from}
+use mathlib.Core.Path.{sym, ap, ◌∙◌}
+use native.Mathlib.Omega.{arith}
+use lib.ListN.{length, length-append}
 use Rattle.rules.proofs.ReadingSteps.{want_step, want_end}
 use Rattle.rules.proofs.wanted.wanted_of.Goals as goal
 
-pub loop-rest-preserved : goal.loop-rest-preserved
-loop-rest-preserved c =
-    rw (part_from, c.with_reading-w.ensures) (sym (want_step _ _ c.loop-rest-test.true) ∙ c.loop-rest.invariant)
-
-pub loop-rest-init : goal.loop-rest-init
-loop-rest-init c = refl
+pub loop-i-preserved : goal.loop-i-preserved
+loop-i-preserved c =
+    let before = c.loop-i.invariant in
+    let next = c.in-Some.ensures.steps in
+    let front = next.0.1.0 in
+    let three = next.0.1.1 ∙ before.size in
+    record {
+      size = next.0.0 ∙ before.size;
+      taken = omega (arith, simp length-append at (ap length front));
+      left = rw c.with_reading-w.ensures (sym (want_step _ _ _ _ _ front three (omega arith)) ∙ before.left);
+    }
 
 pub returns : goal.returns
-returns c = sym (want_end _ _ c.loop-rest-test.false) ∙ c.loop-rest.invariant
+returns c =
+    let before = c.loop-i.invariant in
+    let ended = c.in-None.ensures.steps in
+    sym (want_end _ _ (omega (arith, ended.0.1.0))) ∙ before.left

@@ -20,5 +20,5 @@ returns c =
     let a = c.args in
     let x = unpacked a.self in
     let none : any_exit_route x ≡ false = sym c.any_exit_route.ensures ∙ c.if-any_exit_route.false in
-    rw (c.comes-arrives.ensures, c.toward.ensures, c.comes-leaves.ensures, c.away.ensures, c.area_direction-way.ensures, c.own-own.ensures)
+    rw (c.comes-arrives.ensures, c.toward.ensures, c.comes-leaves.ensures, c.away.ensures, c.area_direction-way.ensures, c.own.ensures)
     (sym (ap₂ (λ (v u : Bool). not v and not u) (expected_follows a.at.plan a.at.own a.at.section x none) none ∙ and_true _))

@@ -21,4 +21,4 @@ returns-then-under_afble-first c =
     let at = place a.at x in
     let under = ap ◌under_AFBLE (sym c.own-own.ensures) ∙ sym c.under_afble.ensures in
     c.watched-next.ensures
-    ∙ kept at x (ap (λ (v : Bool). at.expected or v) (ap₂ ◌and◌ under (sym c.is_first-first.ensures) ∙ c.if-under_afble-first.true) ∙ or_true at.expected)
+    ∙ kept at x (ap (λ (v : Bool). at.expected or v) (ap₂ ◌and◌ under (sym (rw c.from.ensures at c.is_first-first.ensures)) ∙ c.if-under_afble-first.true) ∙ or_true at.expected)

@@ -1,12 +1,14 @@
-use mathlib.Core.Path.{sym, ◌∙◌}
-use Rattle.keylaws.proofs.SlotTestSteps.{filled_end, filled_step}
+use Rattle.std.proofs.Common.{arith, refl}
+use Rattle.slots.proofs.Filled.{filled_split, filled_short}
 use Rattle.slots.proofs.form.is_filled.Goals as goal
 
-pub returns-then-not-byte_ok : goal.returns-then-not-byte_ok
-returns-then-not-byte_ok c = sym (sym c.loop-i.invariant ∙ filled_step _ _ _ _ c.loop-i-test.true ∙ rw (sym c.byte_ok.ensures ∙ c.if-not-byte_ok.true))
+pub returns-then-are_places : goal.returns-then-are_places
+returns-then-are_places c =
+    rw (filled_split c.args.n c.args.count c.args.bytes.now c.from.ensures c.in-Some.ensures.cases, ← c.are_places.ensures, c.if-are_places.true) c.are_zero.ensures
 
-pub loop-i-preserved : goal.loop-i-preserved
-loop-i-preserved c = sym (sym c.loop-i.invariant ∙ filled_step _ _ _ _ c.loop-i-test.true ∙ rw (sym c.byte_ok.ensures ∙ c.if-not-byte_ok.false, ← c.places_left-left.ensures))
+pub returns-else-are_places : goal.returns-else-are_places
+returns-else-are_places c =
+    rw (filled_split c.args.n c.args.count c.args.bytes.now c.from.ensures c.in-Some.ensures.cases, ← c.are_places.ensures, c.if-are_places.false) refl
 
-pub returns : goal.returns
-returns c = sym (filled_end _ _ _ _ c.loop-i-test.false) ∙ c.loop-i.invariant
+pub returns-in-None : goal.returns-in-None
+returns-in-None c = rw (filled_short c.args.n c.args.count c.args.bytes.now (omega (arith, c.in-None.ensures.cases))) refl

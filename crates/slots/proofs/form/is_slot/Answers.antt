@@ -1,5 +1,6 @@
 use mathlib.Core.Bool.{false}
 use mathlib.Core.Path.{◌≡◌, refl}
+use Rattle.std.proofs.lemmas.List.{take_rest}
 use lib.Dec.{leb}
 use lib.ListN.{get_or}
 use borrow.Author.Tests.{eq-eqb, ne_eqb, lt-leb, le-leb}
@@ -18,4 +19,4 @@ returns-then-limit-count c =
 
 pub returns : goal.returns
 unfolding is_slot
-returns c = rw (eq-eqb _ _ c.if-x-ne-SLOT.false, le-leb _ _ c.if-limit-count.false) c.is_filled.ensures
+returns c = rw (eq-eqb _ _ c.if-x-ne-SLOT.false, le-leb _ _ c.if-limit-count.false) (rw take_rest at c.is_filled.ensures)

@@ -2,7 +2,9 @@
 use Prim.Native.Nat.{◌+◌, ◌-◌, ◌≤◌}
 use native.Mathlib.Omega.{arith}
 use lib.ListN.{length, take, drop, length-take, length-drop}
-use borrow.Author.Tests.{not-true}
+use Rattle.std.proofs.Common.{sym, ◌∙◌}
+use Rattle.printing.specs.Pieces.{progress_of}
+use Rattle.printing.proofs.NotEnded.{not_ended}
 use Rattle.printing.proofs.PiecesJoined.{shorter}
 use Rattle.vectors.proofs.text.write_text.Goals as goal
 
@@ -12,4 +14,4 @@ loop-progress-smaller c =
     let n = l.at + l.size - l.at in
     let part = take n (drop l.at l.room) in
     let long : 47 ≤ length part = omega (arith, length-take n (drop l.at l.room), length-drop l.at l.room, l.invariant.1, c.if-room-at.false) in
-    rw c.next_piece-piece.ensures.next (shorter c.args.question.now l.progress (length part) long (not-true _ c.loop-progress-test.true))
+    rw c.next_piece-piece.ensures.next (shorter c.args.question.now (progress_of l.progress) (length part) long (not_ended _ (sym c.is_some.ensures ∙ c.loop-progress-test.true)))

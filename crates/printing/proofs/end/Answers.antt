@@ -1,7 +1,0 @@
-use Rattle.std.proofs.Common.{refl}
-use Rattle.keylaws.specs.Continuation.{from_start}
-use Rattle.printing.proofs.end.Goals as goal
-
-pub returns : goal.returns
-unfolding from_start
-returns c = refl

@@ -1,6 +1,0 @@
-use Rattle.situation.specs.Packed.{station}
-use Rattle.situation.proofs.Station.is_in.Goals as goal
-
-pub returns : goal.returns
-unfolding station
-returns c = c.has_flag.ensures
