@@ -1,7 +1,7 @@
 // An event, and where it happens.
 use super::line::{Direction, Name, Plan};
 
-// "An event is two bytes, code and argument."
+// "An event is two bytes, code and argument." Any bytes, not an enum: an unknown code is judged too, with 3.
 #[derive(Clone, Copy, Debug, PartialEq, Eq)]
 pub struct Event {
     pub code: u8,

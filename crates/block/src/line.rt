@@ -124,7 +124,7 @@ pub fn plan_judged(plan: Plan) -> Result<(), Refusal>
     refuse_if(!plan.is_plan(), Refusal::NoPlan)
 }
 
-// "Station argument: 0 A, 1 B." Not a From: a byte names a station only as an argument, and a signal's byte a direction and a section.
+// "Station argument: 0 A, 1 B." Not a From, as are the next two: a byte is a station, a direction or a section by what it stands for.
 pub fn station_named(arg: u8) -> Name
     ensures { result ≡ station_named arg }
 {

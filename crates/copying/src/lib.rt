@@ -3,7 +3,7 @@
 
 ghost use Rattle.std.specs.Prelude.{◌≡◌, ◌≤◌, ◌++◌, length, drop};
 
-// How many bytes were copied: all of them. The room keeps what lies after them.
+// How many bytes were copied: all of them, so that who copies next knows where. The room keeps what lies after them.
 pub fn copy(from: &[u8], to: &mut [u8]) -> usize
     requires { length from.now ≤ length to.old }
     ensures count { result ≡ length from.now }

@@ -19,7 +19,7 @@ use situation::Situation;
 use slots::room::{Part, grow_slot, put_grown, put_slot};
 
 // A situation in the walk: the slot that leads to it and its number of places, how many more it may have, whether it lies on the way to the
-// continuation, and how many slots are written.
+// continuation, and how many slots are written. The number of places beside the slot: it is the loop's, and the slot is read only where it grows.
 #[derive(Clone, Copy, Debug, PartialEq, Eq)]
 pub(crate) struct Node {
     pub slot: [u8; 6],
@@ -65,7 +65,8 @@ pub(crate) struct Ask<'a> {
     ghost asked: { wanted ≡ wanted_of readings.now },
 }
 
-// Each step asks that the room holds the slots that are counted, and no struct keeps it: the room is lent on and written by the steps in turn.
+// Each step asks that the room holds the slots that are counted. No struct of room and count keeps it: it would hold the lent room itself, which
+// each step lends on to the next.
 impl Ask<'_> {
     ghost use Rattle.engine.specs.Walked.{own, ends, explored, attempted};
 

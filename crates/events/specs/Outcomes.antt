@@ -1,4 +1,4 @@
--- A reader need not believe this file: what the code hands back says this.
+-- What is handed back of an event that is applied, in the words of the definitions.
 use Rattle.std.specs.Prelude.{ℕ, Result, Ok, Err}
 use Rattle.block.specs.Refusals.{number}
 use Rattle.rulebook.specs.Situation.{Kept}

@@ -51,6 +51,7 @@ impl TryFrom<u8> for Code {
 }
 
 impl Code {
+    // TryFrom is made of this: behind a test of Ok the compiler copies less into the one that asks where an event leads.
     pub fn of(byte: u8) -> Option<Code>
         ensures { MatchOption result (kind_of byte ≡ unknown) (λ code. kind_of byte ≡ kind_for code) }
     {

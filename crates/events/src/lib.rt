@@ -21,7 +21,7 @@ use names::{lowest_occupied, route_holder};
 use situation::Situation;
 use soundness::judged;
 
-// What refuses an event, and what that names.
+// What refuses an event, and what that names: a number, as the interface hands it on.
 #[derive(Clone, Copy, Debug, PartialEq, Eq)]
 pub struct Refused {
     pub refusal: Refusal,
@@ -65,7 +65,7 @@ fn at_station(plan: Plan, arg: u8) -> Spot
     }
 }
 
-// Where an event of a section or of a signal happens: own is the owner.
+// Where an event of a section or of a signal happens: own is the owner. Not one function with the other, which asks the line for nothing.
 fn at_owner(plan: Plan, arg: u8) -> Spot
     ensures { result ≡ spot_named plan section arg }
 {
@@ -117,6 +117,7 @@ pub fn refusal_in_2024(plan: Plan, x: Situation, event: Event) -> Result<(), Ref
 }
 
 // (02, Req 05) What 2012 adds: AFBLI and AFBLE exclude BILC, BSLG and BSLB; BILC and BSLB are refused where own is annulled.
+// Two arms alike, not one pattern: a proof of both at once is not told which of them it was.
 pub fn added_in_2012(plan: Plan, x: Situation, event: Event) -> Result<(), Refusal>
     ensures { told result ≡ added_in_2012 plan (unpacked x) event }
 {
@@ -151,7 +152,7 @@ fn occupied_at(x: Situation, at: Spot) -> Situation
     seen.occupied(at).seen_from(own)
 }
 
-// Where an accepted event leads.
+// Where an accepted event leads. The arms stand here and in what refuses: a key asks that far more often than this.
 pub fn next(plan: Plan, x: Situation, event: Event) -> Situation
     ensures { unpacked result ≡ reached plan (unpacked x) event }
 {
@@ -190,7 +191,7 @@ pub fn next(plan: Plan, x: Situation, event: Event) -> Situation
 }
 
 // What the refusal of an event names, asked after it: a section by its number, a station by 0 A, 1 B. Of those that 9 refuses, SOBB and COBB
-// check any exit route.
+// check any exit route. Any number may be asked, and 0 names nothing: the document's numbers, as the interface hands them on.
 pub fn name_of(plan: Plan, x: Situation, event: Event, refusal: u8) -> u8
     ensures { result ≡ name plan (unpacked x) event refusal }
 {

@@ -49,7 +49,8 @@ pub fn folvkin_situation(plan: &[u8], situation: &[u8]) -> u8
     told(judged(plan, x))
 }
 
-// Refusals 1, 2, 3, 4, 24, then the event's own.
+// Refusals 1, 2, 3, 4, 24, then the event's own. Plan and situation go as two values, here as everywhere below: a struct of both was copied at each
+// call.
 fn tried_refusal(plan: Plan, x: Situation, event: Event, room: usize) -> Result<(), Refusal>
     ensures { told result ≡ tried_refusal plan (unpacked x) event room }
 {
@@ -84,6 +85,7 @@ pub fn folvkin_event(plan: &[u8], situation: &[u8], event: &[u8], room: &mut [u8
     let Some((plan, x)) = both_given(plan, situation) else {
         return u64::from(NO_FORM);
     };
+    // By its length, not by a pattern: where no pattern fits, a proof is told nothing of the length.
     if event.len() != EVENT {
         return u64::from(NO_FORM);
     }
@@ -101,6 +103,7 @@ pub fn folvkin_reading(plan: &[u8], situation: &[u8], kind_and_argument: &[u8]) 
     let Some((plan, x)) = both_given(plan, situation) else {
         return u32::from(NO_FORM);
     };
+    // By its length, as an event.
     if kind_and_argument.len() != 2 {
         return u32::from(NO_FORM);
     }

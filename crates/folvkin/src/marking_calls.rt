@@ -6,7 +6,7 @@ use marking::typed::Typed;
 use numeric::question::Numbers;
 
 // Writes the 13 bytes of the sheet line. A room under 13 bytes is refused with 24, after 23; later bytes keep their values.
-// Seven numbers and a room, not structs: the C interface hands them over so.
+// Six numbers and a room, not structs: the C interface hands them over so.
 pub fn folvkin_mark(
     kind: u8,
     amount: u32,

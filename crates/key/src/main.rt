@@ -28,7 +28,7 @@ fn print_text(rt: HostRuntime, question: &[u8], room: &mut [u8]) -> Result<u64>
 {
     let mut progress = Some(start());
     let mut printed: u64 = 0;
-    // `while`, not `for`: how many pieces a text has is known once it has ended.
+    // `while`, not `for` or `while let`: the text ends where the next piece says so, and the whole Option is handed on.
     while progress.is_some() {
         let piece = next_piece(question, progress, room);
         rt.stdout().write_all(&room[..piece.length])?;

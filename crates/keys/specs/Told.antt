@@ -1,4 +1,4 @@
--- A reader need not believe this file: what the code hands back says this.
+-- What the two calls hand back, in the words of their definitions.
 use Rattle.std.specs.Prelude.{ℕ, Bool, List, Result, Ok, Err}
 use Rattle.block.specs.Refusals.{number}
 use Rattle.block.specs.declared.refused.Refusal.{Refusal}

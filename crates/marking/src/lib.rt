@@ -23,7 +23,7 @@ pub enum Answer {
     Metres(f32),
 }
 
-// Why an answer is not marked, by the document's numbers.
+// Why an answer is not marked, by the document's numbers. Of its own: 23 comes nowhere else, and marking knows nothing of the block.
 #[derive(Clone, Copy, Debug, PartialEq, Eq)]
 pub enum Refusal {
     OutOfRange = 23,

@@ -12,13 +12,14 @@ use numeric::{Line, Verdict};
 pub(crate) fn sheet_line(question: Question, answer: Answer) -> Line
     ensures { line_told result ≡ sheet_line (kind_number question.kind) (answer_to question) question.tolerance answer }
 {
+    let exact = question.exact_answer();
     match (question.kind, answer) {
-        (_, Answer::Blank) => question.unjudged_line(Verdict::Blank, 0.0),
+        (_, Answer::Blank) => exact.unjudged_line(Verdict::Blank, 0.0),
         (Kind::Seconds, Answer::Seconds(x)) | (Kind::Metres, Answer::Metres(x)) => {
-            question.number_line(x)
+            exact.number_line(question.tolerance, x)
         }
         (_, Answer::Seconds(x)) | (_, Answer::Metres(x)) => {
-            question.unjudged_line(Verdict::OtherUnit, x)
+            exact.unjudged_line(Verdict::OtherUnit, x)
         }
     }
 }

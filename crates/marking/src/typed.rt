@@ -43,7 +43,7 @@ impl Typed {
     }
 }
 
-// The line's bytes, the number's as they were typed.
+// The line's bytes, the number's as they were typed. An array of its parts: nothing here grows.
 pub(crate) fn line_bytes(pattern: u32, line: Line) -> [u8; LINE]
     requires { T (not (is_nan line.model)) }
     ensures { result ≡ line_bytes pattern (line_told line) }

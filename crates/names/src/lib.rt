@@ -9,7 +9,7 @@ use block::line::{Name, Plan};
 use sections::has;
 use situation::Situation;
 
-// The lowest occupied section of the line; the document's 0 if there is none.
+// The lowest occupied section of the line; 0 if there is none, and no Option: the document names 0 then.
 pub fn lowest_occupied(plan: Plan, x: Situation) -> u8
     ensures { result ≡ lowest_occupied plan (unpacked x) }
 {

@@ -45,9 +45,6 @@ ranged kind amount speed tolerance h =
     named : (n most : ℕ) → T (eqb kind n && leb amount most) → (kind ≡ n) × (amount ≤ most)
     named n most t = (eqb→eq kind n (and_l (eqb kind n) (leb amount most) t), leb→le amount most (and_r (eqb kind n) (leb amount most) t))
 
-pub tolerance_held : (kind amount speed tolerance : ℕ) → in_range kind amount speed tolerance ≡ true → tolerance ≤ 10000
-tolerance_held kind amount speed tolerance h = (ranged kind amount speed tolerance (subst T (sym h) tt)).tolerance_last
-
 -- whole numbers that an f32 holds
 pub under_24 : (n : ℕ) → n ≤ 10000000 → n < 2 ^ 24
 under_24 n h = omega arith

@@ -3,14 +3,13 @@ ghost use Rattle.std.specs.Prelude.{◌≡◌, pos, ◌*◌, ◌^◌, ◌≤◌,
 ghost use Rattle.numeric.specs.Exact.{signed, distance, below, ◌÷◌};
 ghost use Rattle.numeric.specs.Nearest.{model_value};
 ghost use Rattle.numeric.specs.Number.{number_verdict, line_at};
-ghost use Rattle.numeric.specs.Told.{verdict_number, line_told, answer_to};
+ghost use Rattle.numeric.specs.Told.{verdict_number, line_told};
 ghost use Rattle.numeric.specs.Inner.{Cuts, value_of};
 
 use super::codes::MOST;
 use super::exact::Fraction;
 use super::nearest::model_value;
 use super::parts::Parts;
-use super::question::Question;
 use super::scaled::scaled;
 use super::{Line, Verdict};
 
@@ -75,32 +74,32 @@ fn verdict(right: bool) -> Verdict
     }
 }
 
-impl Question {
+impl Fraction {
     // The line of an answer that is not compared: its error is zero.
     pub fn unjudged_line(self, verdict: Verdict, given: f32) -> Line
-        ensures { line_told result ≡ record { given = given; model = model_value (answer_to self); verdict = verdict_number verdict; error = pos 0 } }
+        ensures { line_told result ≡ record { given = given; model = model_value (self.top ÷ self.bottom); verdict = verdict_number verdict; error = pos 0 } }
     {
         Line {
             given,
-            model: model_value(self.exact_answer()),
+            model: model_value(self),
             verdict,
             error: 0,
         }
     }
 
     // The line of a number typed in the unit asked.
-    pub fn number_line(self, given: f32) -> Line
-        ensures { line_told result ≡ line_at (number_verdict (answer_to self) self.tolerance given) (answer_to self) given }
+    pub fn number_line(self, tolerance: u32, given: f32) -> Line
+        requires { tolerance ≤ 10000 }
+        ensures { line_told result ≡ line_at (number_verdict (self.top ÷ self.bottom) tolerance given) (self.top ÷ self.bottom) given }
     {
         if !given.is_finite() {
             return self.unjudged_line(Verdict::NoNumber, given);
         }
-        let exact = self.exact_answer();
-        let model = model_value(exact);
+        let model = model_value(self);
         let pattern = given.to_bits();
-        let gap = gap_between(Parts::of_pattern(pattern), exact);
-        let bottom = u64::from(exact.bottom);
-        let slack = u64::from(self.tolerance) * bottom;
+        let gap = gap_between(Parts::of_pattern(pattern), self);
+        let bottom = u64::from(self.bottom);
+        let slack = u64::from(tolerance) * bottom;
         let miss = (gap.low / bottom).min(u64::from(MOST)) as u32;
         let verdict = verdict(gap.high <= slack);
         let error = with_sign(gap.below, miss);

@@ -81,7 +81,7 @@ fn halved_down(upper: u64, k: u32, to: u32) -> Cut
     }
 }
 
-// n * 2^k, held at 2^44: n is doubled k times, or less often.
+// n * 2^k, held at 2^44: n is doubled k times, or less often. Not one with the doubling above, which never comes near a bound.
 // Stops early once the next doubling reaches 2^44: from then on it is held there.
 #[tactic(auto, using(crate::proofs::Stepping::doubling))]
 fn doubled(n: u64, k: u32) -> u64

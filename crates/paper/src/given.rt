@@ -10,6 +10,7 @@ use situation::Situation;
 use situations::situation_in;
 
 // The plan and the situation, where both are exactly such records.
+#[inline(always)]
 pub fn both_given(plan: &[u8], situation: &[u8]) -> Option<(Plan, Situation)>
     ensures { given_as result ≡ given plan.now situation.now }
 {

@@ -7,7 +7,7 @@ ghost use Rattle.paper.specs.Refusal.{refusal_of};
 use block::line::Plan;
 use situation::Situation;
 
-// How many events it lists, and the bytes of its events and of its readings.
+// How many events it lists, and the bytes of its events and of its readings. The count is the byte that slots are tested by.
 #[derive(Clone, Copy)]
 pub struct Accepted<'a> {
     pub plan: Plan,

@@ -23,7 +23,7 @@ pub struct Position {
 }
 
 // How long the piece is, and where the printing is after it; None once the text has ended.
-// A length, not a slice of the room: the caller writes on after it.
+// A length, not a slice of the room: a slice would keep the room lent.
 #[derive(Clone, Copy, Debug, PartialEq, Eq)]
 pub struct Piece {
     pub length: usize,
@@ -62,7 +62,7 @@ fn lines_piece(slots: &[u8], total: u64, room: &mut [u8]) -> Piece
     Piece { length, next }
 }
 
-// The lines of the last slots, and the total.
+// The lines of the last slots, and the total. Not one with the piece before: that one goes on after a slot, and there may be none here.
 fn last_piece(slots: &[u8], total: u64, room: &mut [u8]) -> Piece
     requires { (longest_lines slots.now ≤ length room.old) × (length (lines (words slots.now)) + 27 ≤ length room.old) }
     ensures told { result.length ≡ length (lines (words slots.now) ++ Text·total ((total + length slots.now / 6) % 2 ^ 64)) }

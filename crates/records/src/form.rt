@@ -7,7 +7,7 @@ use forms::Letters;
 // What stands before the items of a list: two letters and a count.
 pub(crate) const HEAD: usize = 3;
 
-// Whether the letters stand at the front, with at least so many bytes after them.
+// Whether the letters stand at the front, with at least so many bytes after them. Letter by letter: a == would want two bytes made a value first.
 pub(crate) fn stands(s: &[u8], letters: Letters, size: usize) -> bool
     ensures { result ≡ stands_with letters size s.now }
 {
@@ -27,7 +27,7 @@ pub(crate) fn fixed(s: &[u8], letters: Letters, size: usize) -> Option<usize>
     None
 }
 
-// The same of two letters, a count, least to most, and so many items of so many bytes each.
+// The same, with another promise, of two letters, a count, least to most, and so many items of so many bytes each.
 pub(crate) fn counted(
     s: &[u8],
     letters: Letters,

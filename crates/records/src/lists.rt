@@ -9,6 +9,7 @@ use super::form::{counted, fixed};
 use block::event::Event;
 use forms::Letters;
 
+// The document's letters of each record, by name; nothing goes through them all.
 pub const EV: Letters = Letters {
     first: b'E',
     second: b'V',
@@ -33,6 +34,7 @@ pub const EVENT: usize = 2;
 
 pub const READING: usize = 3;
 
+// A function for each record, a line each: its letters and limits.
 pub(crate) fn take_events(s: &[u8]) -> Option<usize>
     ensures { IsExtent (taken events s.now) s.now result }
 {

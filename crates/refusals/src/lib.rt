@@ -1,5 +1,6 @@
 // What refuses each event, own being the station that the event names: "Checks run in the order written; the first that fails
 // gives the refusal." Of AFBLI, AFBLE, BILC and BSLB what refuses it in 2024, and apart from it what 2012 adds.
+// A function for each row of the table, also where two rows are alike or one check is all: each stands beside its row.
 #![tactic(auto)]
 
 ghost use Rattle.std.specs.Prelude.{◌≡◌, not, if◌then◌else◌};
@@ -18,6 +19,8 @@ use block::refused::{Refusal, refuse_if};
 use sections::has;
 use situation::Situation;
 
+// What is inlined always would else be called, and the situation laid in memory for it before any other row is asked.
+#[inline(always)]
 pub fn sobb_refusal(x: Situation, at: Spot) -> Result<(), Refusal>
     ensures { told result ≡ refuses Sobb at (unpacked x) }
 {
@@ -124,6 +127,7 @@ pub fn reminder_off_refusal(x: Situation, at: Spot) -> Result<(), Refusal>
 }
 
 // Own is in and the line not free: 13 for an occupied section or a running count, then 15 for an exit route at the other station.
+#[inline(always)]
 fn check_line(x: Situation) -> Result<(), Refusal>
     ensures { told result ≡ (if (unpacked x).traffic.own is_in and not (track_free (unpacked x).traffic.track) then 13 else if (unpacked x).traffic.own is_in and (unpacked x).traffic.other has_exit_route then 15 else 0) }
 {
@@ -134,6 +138,7 @@ fn check_line(x: Situation) -> Result<(), Refusal>
     refuse_if(inward & other.routed(), Refusal::OtherRoute)
 }
 
+#[inline(always)]
 pub fn exit_normal_refusal(x: Situation, at: Spot) -> Result<(), Refusal>
     ensures { told result ≡ refuses ExitNormal at (unpacked x) }
 {
@@ -148,6 +153,7 @@ pub fn exit_normal_refusal(x: Situation, at: Spot) -> Result<(), Refusal>
     check_line(x)
 }
 
+#[inline(always)]
 pub fn exit_special_refusal(x: Situation, at: Spot) -> Result<(), Refusal>
     ensures { told result ≡ refuses ExitSpecial at (unpacked x) }
 {

@@ -16,7 +16,7 @@ use events::{name_of, next, own_refusal};
 use records::lists::event_at;
 use situation::Situation;
 
-// Where a run stops: the place of the refused event within the slot, from 1, its refusal and what that names.
+// Where a run stops: the place of the refused event within the slot, from 1, its refusal and what that names, a number as the interface hands it on.
 #[derive(Clone, Copy, Debug, PartialEq, Eq)]
 pub struct Stopped {
     pub place: u8,

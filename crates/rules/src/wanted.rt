@@ -17,7 +17,7 @@ use situation::Situation;
 use situation::codes::for_value;
 
 // A set for each station: the codes of orientation, annulment and exit route, as one number, that the readings allow.
-// The line's: 0 if it may be free, 1 if it may not. How many bytes of readings there are from the first aspect on.
+// The line's set: 0 is in it if the line may be free, 1 if it may not. How many bytes of readings there are from the first aspect on.
 // That is a number and not those bytes: what is asked is compared as a whole value, and a slice has its address too.
 #[derive(Clone, Copy, Debug, PartialEq, Eq)]
 pub struct Wanted {

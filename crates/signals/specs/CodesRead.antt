@@ -50,8 +50,3 @@ abbrev pub code_read : ℕ → ℕ → ℕ
 code_read kind codes =
     if codes belongs_to codes_where kind 1 then 1 else
     if codes belongs_to codes_where kind 2 then 2 else 0
-
--- what the code answers, as what is told: of a refusal its number and zero
-abbrev pub answer : Result ℕ Refusal → Told
-answer (Ok value) = told value
-answer (Err refusal) = nothing_told (number refusal)

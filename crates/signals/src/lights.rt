@@ -46,8 +46,10 @@ struct View {
     ghost is_plan: { is_plan plan ≡ true },
 }
 
+// Inlined, so that the direction is known in each.
 impl View {
     // The first section of station s alone.
+    #[inline(always)]
     fn first(self, s: Name) -> u64
         ensures { result ≡ only (first_section self.plan s) }
     {
@@ -57,6 +59,7 @@ impl View {
 
     // A block signal's area direction is its own, its station has no BSLG, and BSLB does not hold it. Trains leave the area of the station
     // where they enter the line, and arrive in the other.
+    #[inline(always)]
     fn block_lit(self) -> u64
         ensures { Those self.plan (block_lit self.plan (unpacked self.situation) self.towards) result × OffLine self.plan result }
     {
@@ -74,6 +77,7 @@ impl View {
     }
 
     // The exit signal's station has an exit route, and the area direction is out.
+    #[inline(always)]
     fn exit_lit(self) -> u64
         ensures { Those self.plan (exit_lit self.plan (unpacked self.situation) self.towards) result × OffLine self.plan result }
     {
@@ -85,6 +89,7 @@ impl View {
     }
 
     // Whether trains run in that direction anywhere on the line.
+    #[inline(always)]
     fn runs(self) -> bool
         ensures { result ≡ runs_somewhere (unpacked self.situation) self.towards }
     {
@@ -97,6 +102,7 @@ impl View {
 
     // The signals that are not red: of the first section the exit signal, of the others the block signals. Where no train runs that way,
     // there is none.
+    #[inline(always)]
     fn open_signals(self) -> u64
         ensures { Those self.plan (is_open self.plan (unpacked self.situation) self.towards) result × OffLine self.plan result }
     {
@@ -112,6 +118,7 @@ impl View {
 
     // The sections whose next one in that direction is in m.
     #[tactic(auto, using(crate::proofs::LitLaws::moved_A, crate::proofs::LitLaws::moved_B))]
+    #[inline(always)]
     fn next_in(self, m: u64) -> u64
         ensures { Moved self.towards m result }
     {
@@ -122,6 +129,7 @@ impl View {
     }
 
     // The section whose next one in that direction lies across the frontier.
+    #[inline(always)]
     fn edge(self) -> u8
         ensures { OnEdge self.plan self.towards result }
     {
@@ -133,6 +141,7 @@ impl View {
 
     // The signals whose next one is not red, m being those that are not red themselves. The next after the last is the entry signal; a
     // next signal across the frontier is read as red when link is down.
+    #[inline(always)]
     fn next_open(self, m: u64) -> u64
         requires { Those self.plan (is_open self.plan (unpacked self.situation) self.towards) m }
         ensures { Those self.plan (next_open self.plan (unpacked self.situation) self.towards) result }
@@ -146,7 +155,9 @@ impl View {
         either(minus(next, last), entered)
     }
 
+    // That m is the open signals is asked, not kept by a type: it is a word as every set.
     // The green signals, m being those that are not red: a signal that is not red is yellow if the next one is red and green otherwise.
+    #[inline(always)]
     fn green_signals(self, m: u64) -> u64
         requires { Those self.plan (is_open self.plan (unpacked self.situation) self.towards) m }
         ensures { Those self.plan (is_green self.plan (unpacked self.situation) self.towards) result }
@@ -158,6 +169,7 @@ impl View {
 
 // What all signals of a direction show. Callers hold a plan that is judged and a situation: a view would be built at each of them, for the
 // same proof.
+#[inline(always)]
 pub fn all_lights(plan: Plan, x: Situation, d: Direction) -> Lights
     requires { is_plan plan ≡ true }
     ensures { Those plan (is_open plan (unpacked x) d) result.open × Those plan (is_green plan (unpacked x) d) result.green }
@@ -172,7 +184,8 @@ pub fn all_lights(plan: Plan, x: Situation, d: Direction) -> Lights
     Lights { open, green }
 }
 
-// The signal over section k. The direction is a const parameter, so that the compiler knows it.
+// The signal over section k. The direction is a const parameter, so that the compiler knows it. The green set is made only where the signal is
+// open, so this is not read off both sets.
 fn aspect_over<const TOWARDS_A: bool>(plan: Plan, x: Situation, k: u8) -> Aspect
     requires { is_plan plan ≡ true }
     ensures { code_of result ≡ shown_at plan (unpacked x) (if TOWARDS_A then TowardsA else TowardsB) k }

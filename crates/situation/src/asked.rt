@@ -9,6 +9,7 @@ use super::{Situation, Station};
 use block::line::{Direction, Name, Plan};
 use sections::either;
 
+// Own and the other have a method each, as the rules speak of them: a parameter would be a word less.
 impl Situation {
     pub fn linked(self) -> bool
         ensures { result ≡ (unpacked self).traffic.link }

@@ -5,7 +5,7 @@ ghost use Rattle.situation.specs.CodeSets.{own_codes, other_codes, for_value, wh
 
 use super::Situation;
 
-// Own's and the other's each by itself: a set that is wanted is asked of both.
+// Own's and the other's are two methods: each is asked against a set of its own.
 impl Situation {
     pub fn own_codes(self) -> u16
         ensures { result ≡ own_codes self }
@@ -21,7 +21,7 @@ impl Situation {
 }
 
 // A set for each of the values 0, 1 and 2; the value is any byte, and no code has another.
-// A match, not three sets asked by index: an array of constants is built anew at each call.
+// A match, not three sets asked by index: the value is no index, but any byte.
 pub fn for_value(zeros: u64, ones: u64, twos: u64, value: u8) -> u64
     ensures { result ≡ for_value zeros ones twos value }
 {

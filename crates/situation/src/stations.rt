@@ -7,7 +7,7 @@ use super::Station;
 use super::flags::{Flag, has_flag};
 use block::codes::{Annulment, Orientation, Route};
 
-// A method for each word of the document, each one flag.
+// A method for each word of the document, over its flags: a flag's name in their place would say less.
 #[tactic(auto, unfolding(crate::specs::Packed::station))]
 impl Station {
     pub fn is_out(self) -> bool

@@ -20,7 +20,7 @@ use situation::{Signals, Situation};
 // The bit of a station that says that its SOBB is pending, for A and for B.
 const BOTH_ASK: u64 = 1 << 10 | 1 << 26;
 
-// A station's bits: BILC, BSLG, reminder, a pending SOBB.
+// A station's bits: BILC, BSLG, reminder, a pending SOBB. Sums, not shifts, here and below: codes out of range are larger than their bits.
 fn bits_word(bilc: u8, bslg: u8, reminder: u8, asks: u8) -> u64
     ensures { (result ≡ bits_word bilc bslg reminder asks) × (result ≤ 3825) }
 {
@@ -52,6 +52,7 @@ fn flags_word(own: u64, other: u64, line: u64) -> u64
 // A record SI or SJ: the bytes that both have, and the mark and the count of an SJ: "SI means both zero".
 #[derive(Clone, Copy)]
 struct Record<'a> {
+    // Read by their places: each is a code of its own.
     bytes: &'a [u8; SI_SIZE],
     watch: &'a [u8],
 }
@@ -138,7 +139,8 @@ impl Record<'_> {
     }
 }
 
-// A situation that is sound in no plan: what codes out of range say. Each station's SOBB is pending.
+// A situation that is sound in no plan: what codes out of range say. Each station's SOBB is pending. Not None: the definitions have a situation
+// for such codes too, and 2 is said where all are judged.
 fn no_situation() -> Situation
     ensures { unpacked result ≡ no_situation }
 {

@@ -7,7 +7,7 @@ ghost use Rattle.keylaws.specs.Continuation.{is_continuation};
 // The bytes of a slot.
 pub const SLOT: usize = 6;
 
-// The first byte of a continuation from the start.
+// The first byte of a continuation from the start. A byte, not an enum: a continuation is six bytes of the interface.
 pub const FROM_START: u8 = 255;
 
 // One of n events.

@@ -10,7 +10,7 @@ pub(crate) const HEAD: usize = 21;
 // The most that follows a head.
 pub(crate) const BODY: usize = 65536;
 
-// What no call answers: the answer of a case that makes no call.
+// A case that makes no call differs whatever number it wants but this, which no call answers.
 const NO_CALL: u64 = u64::MAX;
 
 // The call's kind, the length of its room, its answer, and the lengths of the inputs and of all that follows the head.

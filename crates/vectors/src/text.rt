@@ -21,7 +21,7 @@ pub(crate) fn write_text(question: &[u8], room: &mut [u8]) -> Option<usize> {
     let mut progress = Some(start());
     let mut at: usize = 0;
     let mut size = LEAST;
-    // `while`, not `for`: how many pieces a text has is known once it has ended.
+    // `while`, not `for` or `while let`: the text ends where the next piece says so, and the whole Option is handed on.
     while progress.is_some() {
         if room.len() - at < size {
             return None;

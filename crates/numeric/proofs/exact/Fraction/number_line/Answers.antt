@@ -12,33 +12,30 @@ use mir.Syntax.{w32}
 use mir.Val.{to_z, of_z}
 use mir.ValLaws.{to_z-of_z}
 use Rattle.std.proofs.Common.{rules}
-use Rattle.numeric.specs.Exact.{Fraction, ◌÷◌, is_number, exact_value, distance, right, below, signed, signed_error}
+use Rattle.numeric.specs.Exact.{◌÷◌, is_number, exact_value, distance, right, below, signed, signed_error}
 use Rattle.numeric.specs.Inner.{value_of}
-use Rattle.numeric.specs.Kinds.{kind_number}
 use Rattle.numeric.specs.Nearest.{model_value}
-use Rattle.numeric.specs.Number.{number_verdict, line_at}
-use Rattle.numeric.specs.Told.{verdict_number, line_told, answer_to}
+use Rattle.numeric.specs.Told.{verdict_number}
 use Rattle.numeric.proofs.Cutting.{right_cut, error_cut}
 use Rattle.numeric.proofs.SameValue.{right_of, error_of}
 use Rattle.numeric.proofs.Patterns.{finite_is, finite_field, value_at}
-use Rattle.numeric.proofs.Ranges.{tolerance_held}
 use Rattle.numeric.proofs.NumberLine.{no_number, number}
-use Rattle.numeric.proofs.question.Question.number_line.Goals as goal
+use Rattle.numeric.proofs.exact.Fraction.number_line.Goals as goal
 
 pub returns-then-not-is_finite : goal.returns-then-not-is_finite
 returns-then-not-is_finite c =
-    let q = c.args.self in
+    let t = c.args.self.top ÷ c.args.self.bottom in
     c.unjudged_line.ensures
-    ∙ no_number (answer_to q) q.tolerance c.args.given (model_value (answer_to q)) refl (sym (finite_is c.args.given) ∙ sym c.is_finite.ensures.value ∙ c.if-not-is_finite.true)
+    ∙ no_number t c.args.tolerance c.args.given (model_value t) refl (sym (finite_is c.args.given) ∙ sym c.is_finite.ensures.value ∙ c.if-not-is_finite.true)
 
 pub returns : goal.returns
 returns c =
     let x = c.args.given in
-    let exact = c.exact_answer-exact.result in
+    let exact = c.args.self in
     let t = exact.top ÷ exact.bottom in
-    let tolerance = c.args.self.tolerance in
+    let tolerance = c.args.tolerance in
     -- what owning an `f32` tells: the format holds it
-    let fitting : T (fits binary32 x) = subst T (sym c.well_formed.1.0.1) tt in
+    let fitting : T (fits binary32 x) = subst T (sym c.well_formed.1.1.0.1) tt in
     let finite : is_number x ≡ true = sym (finite_is x) ∙ sym c.is_finite.ensures.value ∙ c.if-not-is_finite.false in
     let d = c.of_pattern.result in
     let e = c.of_pattern.ensures in
@@ -47,7 +44,7 @@ returns c =
     let v = value_of d in
     let gap = c.gap_between-gap in
     let miss = c.min-miss in
-    let slack : tolerance * t.bottom ≤ 10000000 = mul-le-mul (tolerance_held (kind_number c.args.self.kind) c.args.self.amount c.args.self.speed tolerance c.args.self.ranged) exact.small in
+    let slack : tolerance * t.bottom ≤ 10000000 = mul-le-mul c.requires exact.small in
     let judged : leb gap.result.high (c.from.result * c.from-bottom.result) ≡ right t tolerance (exact_value x) =
     ap (λ (z : ℕ). leb gap.result.high (z * c.from-bottom.result)) c.from.ensures
     ∙ ap (λ (z : ℕ). leb gap.result.high (tolerance * z)) c.from-bottom.ensures
@@ -60,11 +57,9 @@ returns c =
     ∙ error_cut (1000 * distance t v) (2 ^ 149) gap.result.low gap.result.high t.bottom gap.ensures.cuts (pow_pos 149) exact.under exact.small in
     let signs : signed gap.result.below miss.result ≡ signed_error t v =
     ap (λ (b : Bool). signed b miss.result) gap.ensures.side ∙ ap (λ (n : ℕ). signed (below t v) n) least in
-    let at_t : line_told (record { given = x; model = c.model_value-model.result; verdict = c.verdict-verdict.result; error = to_z w32 (of_z w32 c.with_sign-error.result) }) ≡ line_at (number_verdict t tolerance x) t x =
     number t tolerance x c.model_value-model.result (verdict_number c.verdict-verdict.result) (to_z w32 (of_z w32 c.with_sign-error.result)) c.model_value-model.ensures finite
     (c.verdict-verdict.ensures ∙ ap (λ (b : Bool). if b then 1 else 0) judged)
     (to_z-of_z w32 c.with_sign-error.result (search rules)
     ∙ c.with_sign-error.ensures
     ∙ signs
-    ∙ error_of t d.negative (d.digits * 2 ^ d.power) (2 ^ 149) (pow_pos 149) exact.under x equals) in
-    at_t ∙ ap (λ (z : Fraction). line_at (number_verdict z tolerance x) z x) c.exact_answer-exact.ensures
+    ∙ error_of t d.negative (d.digits * 2 ^ d.power) (2 ^ 149) (pow_pos 149) exact.under x equals)
