@@ -21,7 +21,7 @@ use slots::room::{Part, grow_slot, put_grown, put_slot};
 // A situation in the walk: the slot that leads to it and its number of places, how many more it may have, whether it lies on the way to the
 // continuation, and how many slots are written. The number of places beside the slot: it is the loop's, and the slot is read only where it grows.
 #[derive(Clone, Copy, Debug, PartialEq, Eq)]
-pub(crate) struct Node {
+pub struct Node {
     pub slot: [u8; 6],
     pub depth: usize,
     pub left: usize,
@@ -32,9 +32,9 @@ pub(crate) struct Node {
 // Where a situation's events start, and whether that place lies on the way to the continuation.
 // A place and a bool, not an Option: there is a place to start at in both cases.
 #[derive(Clone, Copy, Debug, PartialEq, Eq)]
-struct Start {
-    place: usize,
-    on: bool,
+pub struct Start {
+    pub place: usize,
+    pub on: bool,
 }
 
 impl Node {
@@ -53,7 +53,7 @@ impl Node {
 
 // What stays the same through a call: the plan, where the key is continued, the events and the readings in their bytes, and what these ask.
 #[derive(Clone, Copy, Debug)]
-pub(crate) struct Ask<'a> {
+pub struct Ask<'a> {
     pub plan: Plan,
     pub from: [u8; 6],
     pub events: &'a [u8],

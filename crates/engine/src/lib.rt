@@ -12,7 +12,7 @@ ghost use Rattle.records.specs.InBytes.{events_in, readings_in};
 ghost use Rattle.rules.specs.RulesOf.{rules_of};
 ghost use Rattle.rules.specs.Judged.{all_right};
 
-use ask::{Ask, Node};
+pub use ask::{Ask, Node, Start};
 use block::line::Plan;
 use rules::wanted::wanted_of;
 use situation::Situation;

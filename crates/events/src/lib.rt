@@ -9,6 +9,7 @@ ghost use Rattle.rulebook.specs.Table.{station, section, Occupied};
 ghost use Rattle.rulebook.specs.Apply.{fits, known, argument_right, spot_named, led_at, own_refusal, reached, stepped, applied};
 ghost use Rattle.rulebook.specs.Editions.{kind_in_2024, refusal_by, added_in_2012};
 ghost use Rattle.rulebook.specs.Names.{name};
+ghost use Rattle.refusals.specs.InOrder.{own_run};
 ghost use Rattle.situation.specs.Packed.{unpacked};
 ghost use Rattle.events.specs.Codes.{names};
 ghost use Rattle.events.specs.Outcomes.{outcome, named};
@@ -28,6 +29,13 @@ pub struct Refused {
     pub name: u8,
 }
 
+// What a refused event hands back: why, and the situation, unchanged.
+#[derive(Clone, Copy, Debug)]
+pub struct HandedBack {
+    pub refused: Refused,
+    pub situation: Situation,
+}
+
 fn fits(plan: Plan, argument: Argument, arg: u8) -> bool
     ensures { result ≡ fits plan (names argument) arg }
 {
@@ -36,6 +44,16 @@ fn fits(plan: Plan, argument: Argument, arg: u8) -> bool
         Argument::Signal => plan.is_block_signal(arg),
         Argument::Section => plan.is_section(arg),
         Argument::Nothing => arg == 0,
+    }
+}
+
+// Of an event of any code: an unknown one's argument is taken as a station's.
+pub fn argument_right(plan: Plan, event: Event) -> bool
+    ensures { result ≡ argument_right plan event }
+{
+    match Code::of(event.code) {
+        Some(code) => fits(plan, code.argument(), event.argument),
+        None => fits(plan, Argument::Station, event.argument),
     }
 }
 
@@ -134,7 +152,8 @@ pub fn added_in_2012(plan: Plan, x: Situation, event: Event) -> Result<(), Refus
 
 // The event's own refusal, of a code that is known and an argument that is right. What 2012 adds comes "after all checks in 01".
 pub fn own_refusal(plan: Plan, x: Situation, event: Event) -> Result<(), Refusal>
-    ensures { told result ≡ own_refusal plan (unpacked x) event }
+    ensures value { told result ≡ own_refusal plan (unpacked x) event }
+    ensures in_order { told result ≡ own_run plan (unpacked x) event }
 {
     refusal_in_2024(plan, x, event)?;
     if plan.rules2012 {
@@ -214,25 +233,28 @@ fn refusal(plan: Plan, x: Situation, event: Event) -> Result<(), Refusal>
     own_refusal(plan, x, event)
 }
 
-// A refusal, with what it names.
-fn with_name(plan: Plan, x: Situation, event: Event, refusal: Refusal) -> Refused
-    ensures { result ≡ record { refusal = refusal; name = name plan (unpacked x) event (number refusal) } }
+// A refusal, with what it names, and the situation as it was.
+fn handed_back(plan: Plan, x: Situation, event: Event, refusal: Refusal) -> HandedBack
+    ensures { result ≡ record { refused = record { refusal = refusal; name = name plan (unpacked x) event (number refusal) }; situation = x } }
 {
     let name = name_of(plan, x, event, refusal.into());
-    Refused { refusal, name }
+    HandedBack {
+        refused: Refused { refusal, name },
+        situation: x,
+    }
 }
 
-// Refusals 1 plan, 2 situation not sound, 3 unknown code, 4 argument, then the event's own, with what it names. A refused event leaves the
-// situation as it is.
-pub fn apply(plan: Plan, x: Situation, event: Event) -> Result<Situation, Refused>
-    ensures result_value { outcome (unpacked x) result ≡ applied plan (unpacked x) event }
-    ensures name_value { named result ≡ name plan (unpacked x) event (outcome (unpacked x) result).refusal }
+// Refusals 1 plan, 2 situation not sound, 3 unknown code, 4 argument, then the event's own, with what it names. A refused event hands the
+// situation back unchanged.
+pub fn apply(plan: Plan, x: Situation, event: Event) -> Result<Situation, HandedBack>
+    ensures result_value { outcome result ≡ applied plan (unpacked x) event }
+    ensures name_value { named result ≡ name plan (unpacked x) event (outcome result).refusal }
 {
     if let Err(refusal) = judged(plan, x) {
-        return Err(with_name(plan, x, event, refusal));
+        return Err(handed_back(plan, x, event, refusal));
     }
     if let Err(refusal) = refusal(plan, x, event) {
-        return Err(with_name(plan, x, event, refusal));
+        return Err(handed_back(plan, x, event, refusal));
     }
     let next = next(plan, x, event);
     Ok(next)

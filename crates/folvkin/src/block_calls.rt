@@ -19,7 +19,7 @@ use paper::given::both_given;
 use records::lists::EVENT;
 use records::plan::{is_plan, plan_in};
 use sections::one_down;
-use signals::lights::{Lights, all_lights};
+use signals::lights::{Lights, all_lights, shown};
 use signals::readings::reading;
 use situation::Situation;
 use situations::put_situation;
@@ -43,7 +43,7 @@ pub fn folvkin_plan(plan: &[u8]) -> u8
 pub fn folvkin_situation(plan: &[u8], situation: &[u8]) -> u8
     ensures { result ≡ situation_refusal plan.now situation.now }
 {
-    let Some((plan, x)) = both_given(plan, situation) else {
+    let Some((x, plan)) = both_given(plan, situation) else {
         return NO_FORM;
     };
     told(judged(plan, x))
@@ -82,7 +82,7 @@ pub fn folvkin_event(plan: &[u8], situation: &[u8], event: &[u8], room: &mut [u8
     ensures value { result ≡ event_packed (given plan.now situation.now) event.now room.old }
     ensures room_after { room.new ≡ event_room (given plan.now situation.now) event.now room.old }
 {
-    let Some((plan, x)) = both_given(plan, situation) else {
+    let Some((x, plan)) = both_given(plan, situation) else {
         return u64::from(NO_FORM);
     };
     // By its length, not by a pattern: where no pattern fits, a proof is told nothing of the length.
@@ -100,7 +100,7 @@ pub fn folvkin_event(plan: &[u8], situation: &[u8], event: &[u8], room: &mut [u8
 pub fn folvkin_reading(plan: &[u8], situation: &[u8], kind_and_argument: &[u8]) -> u32
     ensures { result ≡ packed (reading_told (given plan.now situation.now) kind_and_argument.now) }
 {
-    let Some((plan, x)) = both_given(plan, situation) else {
+    let Some((x, plan)) = both_given(plan, situation) else {
         return u32::from(NO_FORM);
     };
     // By its length, as an event.
@@ -125,7 +125,7 @@ fn show_direction(lights: Lights, n: u8, room: &mut [u8])
             open: one_down(rest.open),
             green: one_down(rest.green),
         };
-        room[i] = rest.shown(0).into();
+        room[i] = shown(rest, 0);
     }
 }
 
@@ -161,7 +161,7 @@ pub fn folvkin_aspects(plan: &[u8], situation: &[u8], room: &mut [u8]) -> u8
     ensures value { result ≡ aspects_told (given plan.now situation.now) room.old }
     ensures room_after { room.new ≡ aspects_room (given plan.now situation.now) room.old }
 {
-    let Some((plan, x)) = both_given(plan, situation) else {
+    let Some((x, plan)) = both_given(plan, situation) else {
         return NO_FORM;
     };
     told(aspects_shown(plan, x, room))

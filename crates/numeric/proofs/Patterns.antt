@@ -5,11 +5,12 @@ use Prim.Native.Nat.{ℕ, zero, suc, ◌+◌, ◌-◌, ◌*◌, ◌/◌, ◌%◌
 use mathlib.Core.Logic.{inl, inr}
 use native.Mathlib.Nat.{eq-zero-or-pos, ne_of_gt, suc-ne-zero}
 use native.Mathlib.Omega.{arith}
-use mathlib.Core.Bool.{Bool, true, not, cond}
-use lib.Dec.{T, leb, eqb, eqb→eq, nltb→le, not_T}
+use mathlib.Core.Bool.{Bool, true, false, not, cond}
+use lib.Dec.{T, leb, ltb, eqb, eqb→eq, nltb→le, not_T}
 use borrow.Author.Tests.{lt-ltb, le-ltb, eq-eqb, ne_eqb}
-use lib.Ieee.{Float, nan, inf, fin, binary32, odd, of_fields, of_bits, to_bits, fits, is_nan as nan_float}
+use lib.Ieee.{Float, nan, inf, fin, binary32, odd, of_fields, of_bits, to_bits, fits, is_nan as nan_float, nan_bits as nan_pattern, ne, div}
 use lib.Ieee.Bits.{cond_no, of_bits-to_bits, nan_bits_is, nan_bits_above}
+use lib.Ieee.Compare.{differs_from_itself, nan_differs}
 use lib.Ieee.Exact.{HasValue, odd_sign}
 use Rattle.std.specs.Float.{float_is_finite}
 use Rattle.numeric.specs.Exact.{is_number}
@@ -53,20 +54,36 @@ alike b =
 pub value : (b : ℕ) → b % 2147483648 / 8388608 < 255 → HasValue (of_bits binary32 b) (negative_of b) (digits_of b * 2 ^ power_of b) (2 ^ 149)
 value b h = subst (λ (z : Float). HasValue z (negative_of b) (digits_of b * 2 ^ power_of b) (2 ^ 149)) (sym (of_bits_is b)) (fields (leb 2147483648 b) (b % 2147483648 / 8388608) (b % 8388608) (digits_of b) h (alike b))
 
--- ---- the test of the code
+pub digits_lt : (b : ℕ) → digits_of b < 2 ^ 24
+digits_lt b = go (ltb (b % 2147483648) 8388608)
+  where
+    go : (t : Bool) → (if t then b % 8388608 else 8388608 + b % 8388608) < 2 ^ 24
+    go true = omega arith
+    go false = omega arith
+
+-- ---- the test of the code, and what it says of a float
 pub finite_is : (x : Float) → float_is_finite x ≡ is_number x
 unfolding float_is_finite
 finite_is nan = refl
 finite_is (inf s) = refl
 finite_is (fin s m e) = refl
 
-no_nan : (x : Float) → is_number x ≡ true → T (not (nan_float x))
+number_no_nan : (x : Float) → is_number x ≡ true → T (not (nan_float x))
 unfolding nan_float
-no_nan nan e = subst T (sym e) tt
+number_no_nan nan e = subst T (sym e) tt
+number_no_nan (inf s) e = tt
+number_no_nan (fin s m n) e = tt
+
+pub no_nan : (x : Float) → ne x x ≡ false → T (not (nan_float x))
+unfolding nan_float
+no_nan nan e = subst T (sym nan_differs ∙ e) tt
 no_nan (inf s) e = tt
 no_nan (fin s m n) e = tt
 
-is_inf : (x : Float) → T (fits binary32 x) → to_bits binary32 x % 2147483648 ≡ 2139095040 → x ≡ inf (negative_of (to_bits binary32 x))
+pub is_nan : (x : Float) → ne x x ≡ true → x ≡ nan
+is_nan x e = differs_from_itself x (subst T (sym e) tt)
+
+pub is_inf : (x : Float) → T (fits binary32 x) → to_bits binary32 x % 2147483648 ≡ 2139095040 → x ≡ inf (negative_of (to_bits binary32 x))
 unfolding of_fields
 is_inf x h e =
     let b = to_bits binary32 x in
@@ -74,16 +91,19 @@ is_inf x h e =
     let t : b % 8388608 ≡ 0 = omega arith in
     sym (of_bits-to_bits binary32 x h) ∙ of_bits_is b ∙ ap (λ (z : ℕ). of_fields binary32 (leb 2147483648 b) z (b % 8388608)) u ∙ ap (λ (z : ℕ). of_fields binary32 (leb 2147483648 b) 255 z) t
 
--- a number is no NaN and not infinite
-pub finite_field : (x : Float) → T (fits binary32 x) → is_number x ≡ true → to_bits binary32 x % 2147483648 / 8388608 < 255
-finite_field x h n =
+pub finite_field : (x : Float) → T (fits binary32 x) → T (not (nan_float x)) → (to_bits binary32 x % 2147483648 ≡ 2139095040 → ⊥) → to_bits binary32 x % 2147483648 / 8388608 < 255
+finite_field x h n i =
     let b = to_bits binary32 x in
     let le : b % 2147483648 ≤ 2139095040 =
-    nltb→le 2139095040 (b % 2147483648) (subst (λ (z : Bool). T (not z)) (ap nan_float (sym (of_bits-to_bits binary32 x h)) ∙ sym (nan_bits_is binary32 b) ∙ nan_bits_above binary32 b) (no_nan x n)) in
-    under (b % 2147483648) le (λ e. subst T (sym n ∙ ap is_number (is_inf x h e)) tt)
+    nltb→le 2139095040 (b % 2147483648) (subst (λ (z : Bool). T (not z)) (ap nan_float (sym (of_bits-to_bits binary32 x h)) ∙ sym (nan_bits_is binary32 b) ∙ nan_bits_above binary32 b) n) in
+    under (b % 2147483648) le i
   where
     under : (y : ℕ) → y ≤ 2139095040 → (y ≡ 2139095040 → ⊥) → y / 8388608 < 255
     under y h n = omega arith
+
+-- a number is no NaN and not infinite
+pub number_field : (x : Float) → T (fits binary32 x) → is_number x ≡ true → to_bits binary32 x % 2147483648 / 8388608 < 255
+number_field x h n = finite_field x h (number_no_nan x n) (λ e. subst T (sym n ∙ ap is_number (is_inf x h e)) tt)
 
 pub value_of : (x : Float) → T (fits binary32 x) → to_bits binary32 x % 2147483648 / 8388608 < 255 → HasValue x (negative_of (to_bits binary32 x)) (digits_of (to_bits binary32 x) * 2 ^ power_of (to_bits binary32 x)) (2 ^ 149)
 value_of x h g = subst (λ (z : Float). HasValue z (negative_of (to_bits binary32 x)) (digits_of (to_bits binary32 x) * 2 ^ power_of (to_bits binary32 x)) (2 ^ 149)) (of_bits-to_bits binary32 x h) (value (to_bits binary32 x) g)
@@ -93,3 +113,20 @@ value_at x s d k h g es ed ek =
     subst (λ (t : Bool). HasValue x t (d * 2 ^ k) (2 ^ 149)) (sym es)
     (subst (λ (z : ℕ). HasValue x (negative_of (to_bits binary32 x)) (z * 2 ^ k) (2 ^ 149)) (sym ed)
     (subst (λ (z : ℕ). HasValue x (negative_of (to_bits binary32 x)) (digits_of (to_bits binary32 x) * 2 ^ z) (2 ^ 149)) (sym ek) (value_of x h g)))
+
+-- ---- a pattern that is typed
+pub no_nan_bits : (b : ℕ) → b % 2147483648 ≤ 2139095040 → T (not (nan_pattern binary32 b))
+no_nan_bits b h = subst (λ (z : Bool). T (not z)) (sym (nan_bits_above binary32 b ∙ le-ltb 2139095040 (b % 2147483648) h)) tt
+
+one_nan : (x : Float) → nan_float x ≡ true → x ≡ nan
+unfolding nan_float
+one_nan nan e = refl
+one_nan (inf s) e = absurd (subst T (sym e) tt)
+one_nan (fin s m k) e = absurd (subst T (sym e) tt)
+
+zero_by_zero : div binary32 (of_bits binary32 0) (of_bits binary32 0) ≡ nan
+unfolding div of_bits
+zero_by_zero = refl
+
+pub nan_bits : (b : ℕ) → 2139095040 < b % 2147483648 → div binary32 (of_bits binary32 0) (of_bits binary32 0) ≡ of_bits binary32 b
+nan_bits b h = zero_by_zero ∙ sym (one_nan (of_bits binary32 b) (sym (nan_bits_is binary32 b) ∙ nan_bits_above binary32 b ∙ lt-ltb 2139095040 (b % 2147483648) h))

@@ -4,8 +4,8 @@ use Prim.Native.Nat.{ℕ, ◌*◌, ◌^◌, ◌≤◌, ◌<◌}
 use native.Mathlib.Nat.{mul-one, mul_assoc, mul_comm, mul_left_comm, mul-pos, ne_of_gt}
 use mathlib.Core.Bool.{true, false, not, cond, true≢false}
 use lib.IntN.{pos}
-use lib.Dec.{T, eqb, eqb→eq, not_T}
-use lib.Ieee.{Float, nan, inf, fin, Format, prec, up, down, round, div, of_int}
+use lib.Dec.{T, eqb, eqb→eq, not_T, le→leb}
+use lib.Ieee.{Float, nan, inf, fin, Format, prec, up, down, round, div, of_int, in_float as float_holds}
 use lib.Ieee.Bits.{cond_no}
 use lib.Ieee.Fits.{down_pos}
 use lib.Ieee.Exact.{HasValue}
@@ -36,3 +36,8 @@ div_is f (fin false m e) (fin false n d) a b h k B =
 pub quotient : (f : Format) (p q : ℕ) → p ≤ 2 ^ prec f → 0 < q → q ≤ 2 ^ prec f → div f (of_int f (pos p)) (of_int f (pos q)) ≡ round f false p q
 unfolding of_int
 quotient f p q P Q H = div_is f (round f false p 1) (round f false q 1) p q (round_whole f false p P) (round_whole f false q H) Q
+
+-- the cast asks nothing more
+pub in_float : (f : Format) (p : ℕ) → p ≤ 2 ^ prec f → T (float_holds f (pos p))
+unfolding float_holds
+in_float f p h = le→leb p (2 ^ prec f) h

@@ -1,9 +1,11 @@
 // The document's numbers that carry meaning, each once.
 
 // The signed error is held to -MOST..MOST.
-pub(crate) const MOST: u32 = 1000000;
+pub const MOST: u32 = 1000000;
 
-// The patterns of an f32: that of minus zero, and that of the least normal number.
-pub(crate) const MINUS_ZERO: u32 = 2147483648;
+// The patterns of an f32: that of minus zero, that of the infinite, and that of the least normal number.
+pub const MINUS_ZERO: u32 = 2147483648;
 
-pub(crate) const NORMAL: u32 = 8388608;
+pub const INFINITE: u32 = 2139095040;
+
+pub const NORMAL: u32 = 8388608;

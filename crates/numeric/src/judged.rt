@@ -9,16 +9,16 @@ ghost use Rattle.numeric.specs.Inner.{Cuts, value_of};
 use super::codes::MOST;
 use super::exact::Fraction;
 use super::nearest::model_value;
-use super::parts::Parts;
+pub use super::parts::Parts;
 use super::scaled::scaled;
 use super::{Line, Verdict};
 
 // 1000 times the distance, as a multiple of 1 / bottom, cut down and cut up; and on which side the number lies.
 #[derive(Clone, Copy, Debug, PartialEq, Eq)]
-struct Gap {
-    below: bool,
-    low: u64,
-    high: u64,
+pub struct Gap {
+    pub below: bool,
+    pub low: u64,
+    pub high: u64,
 }
 
 // How far the number lies from the exact answer.

@@ -1,9 +1,9 @@
 // A number typed in the unit asked: its exact answer, its model value, and how it is judged.
 #![tactic(auto)]
 
-mod codes;
+pub mod codes;
 pub mod exact;
-mod judged;
+pub mod judged;
 pub mod nearest;
 mod parts;
 pub mod question;

@@ -6,6 +6,6 @@ use Rattle.situation.specs.Packed.{unpacked}
 use Rattle.forms.specs.Whole.{Whole, refused as no_form, accepted}
 use Rattle.paper.specs.Given.{Given}
 
-abbrev pub given_as : Option (Plan × Situation) → Whole Given
+abbrev pub given_as : Option (Situation × Plan) → Whole Given
 given_as None = no_form
-given_as (Some (plan, x)) = accepted (record { plan = plan; situation = unpacked x })
+given_as (Some (x, plan)) = accepted (record { plan = plan; situation = unpacked x })

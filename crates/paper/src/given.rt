@@ -9,13 +9,14 @@ use records::situation::is_situation;
 use situation::Situation;
 use situations::situation_in;
 
-// The plan and the situation, where both are exactly such records.
+// The situation and the plan, where both are exactly such records. The words of the situation come first: behind the three bytes of a plan they were
+// copied from places that are no words', and every call waited for that.
 #[inline(always)]
-pub fn both_given(plan: &[u8], situation: &[u8]) -> Option<(Plan, Situation)>
+pub fn both_given(plan: &[u8], situation: &[u8]) -> Option<(Situation, Plan)>
     ensures { given_as result ≡ given plan.now situation.now }
 {
     if is_plan(plan) && is_situation(situation) {
-        return Some((plan_in(plan), situation_in(situation)));
+        return Some((situation_in(situation), plan_in(plan)));
     }
     None
 }

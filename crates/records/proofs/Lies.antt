@@ -1,5 +1,5 @@
 -- What lies where: of bytes that are a question, each record's bytes are what is written of it. Assumes nothing.
-use Prim.Native.Nat.{ℕ, ◌+◌, ◌*◌, ◌≤◌}
+use Prim.Native.Nat.{ℕ, ◌+◌, ◌*◌, ◌/◌, ◌≤◌}
 use mathlib.Core.Path.{◌≡◌, refl, sym, ap, ◌∙◌}
 use mathlib.Core.Bool.{true}
 use mathlib.Core.List.{List, [], ◌∷◌, append-nil}
@@ -18,7 +18,7 @@ use Rattle.records.specs.Plan.{plan}
 use Rattle.records.specs.Situation.{situation}
 use Rattle.records.specs.Lists.{one_event, events, one_reading, readings, answer_length}
 use Rattle.records.specs.Question.{Parts, question}
-use Rattle.records.specs.Laid.{Bytes, bytes_of_parts, laid_in}
+use Rattle.records.specs.Laid.{Bytes, bytes_of_parts, laid_in, end_to_end}
 use Rattle.records.specs.InBytes.{plan_at, plan_size, codes_at, situation_size, events_in, readings_in}
 use Rattle.records.proofs.QuestionLaws.{one_form}
 use Rattle.records.proofs.PlanForms.{plan_size_is, plan_long_enough}
@@ -110,3 +110,18 @@ lies s b e = by (whole question s) refl e
     by : (w : Whole Parts) → whole question s ≡ w → Some b ≡ laid_in w → Lies s b
     by refused is e = absurd (let z : ⊥ = cc in z)
     by (accepted v) is e = of v is (let z : b ≡ bytes_of_parts v = cc in z)
+
+-- ---- where it lies: each record begins where the ones before it end, and after the last one nothing is left
+parts_end_to_end : (v : Parts) → end_to_end (bytes_of_parts v) ≡ question.written v
+unfolding question events readings answer_length
+parts_end_to_end v =
+    let n : length (each_written one_event v.1.1.0) / 2 ≡ length v.1.1.0 = omega (arith, each_event_long v.1.1.0) in
+    let m : length (each_written one_reading v.1.1.1.0) / 3 ≡ length v.1.1.1.0 = omega (arith, each_reading_long v.1.1.1.0) in
+    rw (n, m) refl
+
+pub laid_end_to_end : (s : List ℕ) (b : Bytes) → Some b ≡ laid_in (whole question s) → end_to_end b ≡ s
+laid_end_to_end s b e = by (whole question s) refl e
+  where
+    by : (w : Whole Parts) → whole question s ≡ w → Some b ≡ laid_in w → end_to_end b ≡ s
+    by refused is e = absurd (let z : ⊥ = cc in z)
+    by (accepted v) is e = ap end_to_end (let z : b ≡ bytes_of_parts v = cc in z) ∙ parts_end_to_end v ∙ (one_form s v is).1

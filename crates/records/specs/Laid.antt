@@ -1,10 +1,10 @@
 -- A reader need not believe this file: what lies in the bytes of a question, as the code hands it out. proofs/Lies shows what can be read there.
-use Rattle.std.specs.Prelude.{ℕ, List, Option, None, Some}
+use Rattle.std.specs.Prelude.{ℕ, ◌/◌, List, [], ◌∷◌, ◌++◌, length, Option, None, Some}
 use Rattle.forms.specs.Compose.{each_written}
 use Rattle.forms.specs.Whole.{Whole, refused, accepted}
 use Rattle.records.specs.Plan.{plan}
 use Rattle.records.specs.Situation.{situation}
-use Rattle.records.specs.Lists.{one_event, one_reading}
+use Rattle.records.specs.Lists.{EV, RD, LN, one_event, one_reading}
 use Rattle.records.specs.Question.{Parts}
 use Rattle.records.specs.declared.question.Laid.{Laid}
 
@@ -31,3 +31,12 @@ bytes_of_parts v = record {
 abbrev pub laid_in : Whole Parts → Option Bytes
 laid_in refused = None
 laid_in (accepted v) = Some (bytes_of_parts v)
+
+-- where each lies: the question's bytes, the records laid end to end
+abbrev pub end_to_end : Bytes → List ℕ
+end_to_end b =
+    b.plan
+    ++ (b.situation
+    ++ ((EV.first ∷ EV.second ∷ length b.events / 2 ∷ b.events)
+    ++ ((RD.first ∷ RD.second ∷ length b.readings / 3 ∷ b.readings)
+    ++ (LN.first ∷ LN.second ∷ b.length ∷ []))))

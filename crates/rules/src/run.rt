@@ -38,16 +38,21 @@ pub fn run_places(
     ensures name_value { named result ≡ name_told plan (events_in events.now) (unpacked start) places.now }
 {
     let mut x = start;
-    for (i, &place) in places.iter().enumerate() {
-        let event = event_at(events, usize::from(place));
+    let mut i = 0;
+    // `loop`, not `for`: the loop itself yields by `break` what is told (docs/PROMISES.md, "What shape each place takes").
+    loop {
+        if i == places.len() {
+            break Ok(all_hold(plan, wanted_of(readings), x, readings));
+        }
+        let event = event_at(events, usize::from(places[i]));
         if let Err(refusal) = own_refusal(plan, x, event) {
-            return Err(Stopped {
+            break Err(Stopped {
                 place: (i + 1) as u8,
                 refusal,
                 name: name_of(plan, x, event, u8::from(refusal)),
             });
         }
         x = next(plan, x, event);
+        i += 1;
     }
-    Ok(all_hold(plan, wanted_of(readings), x, readings))
 }

@@ -237,3 +237,12 @@ impl Lights {
         Aspect::Yellow
     }
 }
+
+// Its number, by a sum and no choice: all signals of a line are asked so, and by the method above each takes two instructions more.
+pub fn shown(l: Lights, k: u8) -> u8
+    ensures { result ≡ shown l k }
+{
+    let open = has(l.open, u16::from(k));
+    let green = has(l.green, u16::from(k));
+    u8::from(open) + u8::from(open & green)
+}

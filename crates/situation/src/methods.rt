@@ -66,13 +66,13 @@ const OWN_SOBB: Pending = Pending {
 
 // Also where two events differ in one value, as BILC and DILC, each has its method; each takes the spot, as each row of the table does.
 impl Situation {
-    pub fn sobb(self, at: Spot) -> Situation
+    pub fn sobb(mut self, at: Spot) -> Situation
         ensures { unpacked result ≡ leads Sobb at (unpacked self) }
     {
         self.with_pending(OWN_SOBB)
     }
 
-    pub fn cobb(self, at: Spot) -> Situation
+    pub fn cobb(mut self, at: Spot) -> Situation
         ensures { unpacked result ≡ leads Cobb at (unpacked self) }
     {
         self.reoriented(IN, OUT).settled(false, self)
@@ -89,69 +89,69 @@ impl Situation {
         next.becomes(NONE)
     }
 
-    pub fn afbli(self, at: Spot) -> Situation
+    pub fn afbli(mut self, at: Spot) -> Situation
         ensures { unpacked result ≡ leads Afbli at (unpacked self) }
     {
         self.annul(at, AFBLI).settled(true, self)
     }
 
-    pub fn afble(self, at: Spot) -> Situation
+    pub fn afble(mut self, at: Spot) -> Situation
         ensures { unpacked result ≡ leads Afble at (unpacked self) }
     {
         self.annul(at, AFBLE).settled(true, self)
     }
 
-    pub fn dafbl(self, at: Spot) -> Situation
+    pub fn dafbl(mut self, at: Spot) -> Situation
         ensures { unpacked result ≡ leads Dafbl at (unpacked self) }
     {
         self.annulled_by(NO_ANNULMENT)
     }
 
-    pub fn bilc(self, at: Spot) -> Situation
+    pub fn bilc(mut self, at: Spot) -> Situation
         ensures { unpacked result ≡ leads Bilc at (unpacked self) }
     {
         self.with(Flag::Bilc, true)
     }
 
-    pub fn dilc(self, at: Spot) -> Situation
+    pub fn dilc(mut self, at: Spot) -> Situation
         ensures { unpacked result ≡ leads Dilc at (unpacked self) }
     {
         self.with(Flag::Bilc, false)
     }
 
-    pub fn bslg(self, at: Spot) -> Situation
+    pub fn bslg(mut self, at: Spot) -> Situation
         ensures { unpacked result ≡ leads Bslg at (unpacked self) }
     {
         self.with(Flag::Bslg, true)
     }
 
-    pub fn bslg_off(self, at: Spot) -> Situation
+    pub fn bslg_off(mut self, at: Spot) -> Situation
         ensures { unpacked result ≡ leads BslgOff at (unpacked self) }
     {
         self.with(Flag::Bslg, false)
     }
 
-    pub fn bslb(self, at: Spot) -> Situation
+    pub fn bslb(mut self, at: Spot) -> Situation
         ensures { unpacked result ≡ leads Bslb at (unpacked self) }
     {
         let held = self.held(at.direction);
         self.with_held(at.direction, with_section(held, at.section))
     }
 
-    pub fn bslb_off(self, at: Spot) -> Situation
+    pub fn bslb_off(mut self, at: Spot) -> Situation
         ensures { unpacked result ≡ leads BslbOff at (unpacked self) }
     {
         let held = self.held(at.direction);
         self.with_held(at.direction, without_section(held, at.section))
     }
 
-    pub fn reminder(self, at: Spot) -> Situation
+    pub fn reminder(mut self, at: Spot) -> Situation
         ensures { unpacked result ≡ leads Reminder at (unpacked self) }
     {
         self.with(Flag::Reminder, true)
     }
 
-    pub fn reminder_off(self, at: Spot) -> Situation
+    pub fn reminder_off(mut self, at: Spot) -> Situation
         ensures { unpacked result ≡ leads ReminderOff at (unpacked self) }
     {
         self.with(Flag::Reminder, false)
@@ -169,31 +169,31 @@ impl Situation {
         next
     }
 
-    pub fn exit_normal(self, at: Spot) -> Situation
+    pub fn exit_normal(mut self, at: Spot) -> Situation
         ensures { unpacked result ≡ leads ExitNormal at (unpacked self) }
     {
         self.exit(at, NORMAL).settled(false, self)
     }
 
-    pub fn exit_special(self, at: Spot) -> Situation
+    pub fn exit_special(mut self, at: Spot) -> Situation
         ensures { unpacked result ≡ leads ExitSpecial at (unpacked self) }
     {
         self.exit(at, SPECIAL).settled(false, self)
     }
 
-    pub fn exit_released(self, at: Spot) -> Situation
+    pub fn exit_released(mut self, at: Spot) -> Situation
         ensures { unpacked result ≡ leads ExitReleased at (unpacked self) }
     {
         self.with_exit(NO_ROUTE)
     }
 
-    pub fn entry(self, at: Spot) -> Situation
+    pub fn entry(mut self, at: Spot) -> Situation
         ensures { unpacked result ≡ leads Entry at (unpacked self) }
     {
         self.with(Flag::Entry, true)
     }
 
-    pub fn entry_released(self, at: Spot) -> Situation
+    pub fn entry_released(mut self, at: Spot) -> Situation
         ensures { unpacked result ≡ leads EntryReleased at (unpacked self) }
     {
         self.with(Flag::Entry, false)
@@ -230,7 +230,7 @@ impl Situation {
     }
 
     // If the section is own's first, own is in, and the line was free, own becomes out and the other in.
-    pub fn occupied(self, at: Spot) -> Situation
+    pub fn occupied(mut self, at: Spot) -> Situation
         ensures { unpacked result ≡ leads Occupied at (unpacked self) }
     {
         let next = self.taken(at).settled(true, self);
@@ -242,7 +242,7 @@ impl Situation {
     }
 
     // When the last section clears with the mark set and no exit route set, a count of 10 starts.
-    pub fn freed(self, at: Spot) -> Situation
+    pub fn freed(mut self, at: Spot) -> Situation
         ensures { unpacked result ≡ leads Freed at (unpacked self) }
     {
         let left = without_section(self.occupied, at.section);
@@ -257,13 +257,13 @@ impl Situation {
         next
     }
 
-    pub fn link_lost(self, at: Spot) -> Situation
+    pub fn link_lost(mut self, at: Spot) -> Situation
         ensures { unpacked result ≡ leads LinkLost at (unpacked self) }
     {
         self.with(Flag::Link, false).settled(true, self)
     }
 
-    pub fn link_restored(self, at: Spot) -> Situation
+    pub fn link_restored(mut self, at: Spot) -> Situation
         ensures { unpacked result ≡ leads LinkRestored at (unpacked self) }
     {
         let next = self.with(Flag::Link, true);
@@ -274,7 +274,7 @@ impl Situation {
     }
 
     // Each second lowers the count; when that brings it to 0 the mark goes; with no count running a second changes nothing.
-    pub fn second(self, at: Spot) -> Situation
+    pub fn second(mut self, at: Spot) -> Situation
         ensures { unpacked result ≡ leads Second at (unpacked self) }
     {
         let count = self.count();

@@ -13,6 +13,14 @@ pub struct Part {
     pub more: bool,
 }
 
+// The slot writer: six bytes at the front of the part that it is lent.
+fn write_slot(slot: [u8; 6], part: &mut [u8])
+    requires { 6 ≤ length part.old }
+    ensures { part.new ≡ slot ++ drop 6 part.old }
+{
+    copying::copy(&slot, part);
+}
+
 // One slot more, written into the rest of the room, or the news that it has no place.
 // A room and a count, not one struct: the engine lends the same room to every step, and a step hands the count back by value, in `Part`.
 pub fn put_slot(slot: [u8; 6], count: usize, room: &mut [u8]) -> Part
@@ -24,7 +32,7 @@ pub fn put_slot(slot: [u8; 6], count: usize, room: &mut [u8]) -> Part
     if room.len() - start < SLOT {
         return Part { count, more: true };
     }
-    copying::copy(&slot, &mut room[start..]);
+    write_slot(slot, &mut room[start..]);
     let count = count + 1;
     Part { count, more: false }
 }

@@ -1,7 +1,6 @@
 use Prim.Native.Nat.{ℕ}
 use mathlib.Core.Path.{◌≡◌, sym, ap, ◌∙◌}
-use Rattle.std.specs.Prelude.{eqb, if◌then◌else◌}
-use Rattle.block.specs.Refusals.{number}
+use Rattle.std.specs.Prelude.{Err, eqb, if◌then◌else◌}
 use Rattle.block.specs.declared.line.Plan.{Plan}
 use Rattle.block.specs.declared.event.Event.{Event}
 use Rattle.block.proofs.Told.{not_accepted}
@@ -9,7 +8,8 @@ use Rattle.rulebook.specs.Situation.{Kept}
 use Rattle.rulebook.specs.Judged.{judged}
 use Rattle.rulebook.specs.Apply.{accepted, refused, stepped, applied}
 use Rattle.situation.specs.Packed.{unpacked}
-use Rattle.events.specs.declared.Refused.{Refused}
+use Rattle.events.specs.declared.HandedBack.{HandedBack}
+use Rattle.events.specs.Outcomes.{outcome}
 use Rattle.events.proofs.Steps.{as_accepted, as_refused}
 use Rattle.events.proofs.apply.Goals as goal
 
@@ -22,7 +22,7 @@ returns-in-Err-refusal-clause-result_value c =
     let a = c.args in
     let x = unpacked a.x in
     let e = c.in-Err-refusal.ensures in
-    ap (λ (r : Refused). refused (number r.refusal) x) c.with_name-in-Err-refusal.ensures ∙ ap (λ (n : ℕ). refused n x) e
+    ap (λ (back : HandedBack). outcome (Err back)) c.handed_back-in-Err-refusal.ensures ∙ ap (λ (n : ℕ). refused n x) e
     ∙ sym (as_refused a.plan x a.event (λ z. not_accepted _ (e ∙ z)))
     ∙ step_applied a.plan x a.event c.in_default.ensures
 

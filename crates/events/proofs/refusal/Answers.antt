@@ -15,4 +15,4 @@ returns-in_err-bytes_refusal c =
 pub returns : goal.returns
 returns c =
     let a = c.args in
-    bytes_accepted a.plan (unpacked a.x) a.event c.bytes_refusal.ensures (ap told c.in_ok-bytes_refusal.was) c.own_refusal.ensures
+    bytes_accepted a.plan (unpacked a.x) a.event c.bytes_refusal.ensures (ap told c.in_ok-bytes_refusal.was) c.own_refusal.ensures.value

@@ -17,5 +17,5 @@ loop-i-preserved c =
     let fits : l.i < length a.room.now = search rules in
     let o : c.one_down.result ≡ a.lights.open / 2 ^ (l.i + 1) = c.one_down.ensures ∙ moved a.lights.open l.i l.invariant.opened in
     let g : c.one_down-in-loop-i.result ≡ a.lights.green / 2 ^ (l.i + 1) = c.one_down-in-loop-i.ensures ∙ moved a.lights.green l.i l.invariant.green in
-    let now : c.into.result ≡ shown a.lights (l.i + 1) = c.into.ensures ∙ c.shown.ensures ∙ bottom_shown a.lights (l.i + 1) o g in
+    let now : c.shown.result ≡ shown a.lights (l.i + 1) = c.shown.ensures ∙ bottom_shown a.lights (l.i + 1) o g in
     record { length = search rules; written = rw (l.invariant.written, now) (one_written a.lights a.room.now l.i fits); opened = o; green = g }

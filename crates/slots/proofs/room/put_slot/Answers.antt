@@ -1,4 +1,4 @@
-use Rattle.std.proofs.Common.{arith, rules, ◌≡◌, length}
+use Rattle.std.proofs.Common.{arith}
 use Rattle.keylaws.proofs.SheetSteps.{put_fits, put_none}
 use Rattle.slots.proofs.room.put_slot.Goals as goal
 
@@ -6,6 +6,4 @@ pub returns-then-room-start-lt-SLOT-clause-put : goal.returns-then-room-start-lt
 returns-then-room-start-lt-SLOT-clause-put c = put_none c.args.room.now c.args.count c.args.slot (omega arith)
 
 pub returns-clause-put : goal.returns-clause-put
-returns-clause-put c =
-    let six : length c.args.slot ≡ 6 = search rules in
-    put_fits c.args.room.now c.args.count c.args.slot c.copy.new.to (omega arith) (rw six at c.copy.ensures.copied)
+returns-clause-put c = put_fits c.args.room.now c.args.count c.args.slot c.write_slot.new.part (omega arith) c.write_slot.ensures

@@ -18,7 +18,7 @@ use Rattle.numeric.specs.Nearest.{model_value}
 use Rattle.numeric.specs.Told.{verdict_number}
 use Rattle.numeric.proofs.Cutting.{right_cut, error_cut}
 use Rattle.numeric.proofs.SameValue.{right_of, error_of}
-use Rattle.numeric.proofs.Patterns.{finite_is, finite_field, value_at}
+use Rattle.numeric.proofs.Patterns.{finite_is, number_field, value_at}
 use Rattle.numeric.proofs.NumberLine.{no_number, number}
 use Rattle.numeric.proofs.exact.Fraction.number_line.Goals as goal
 
@@ -40,7 +40,7 @@ returns c =
     let d = c.of_pattern.result in
     let e = c.of_pattern.ensures in
     -- the number that `gap_between` was handed is the one given
-    let equals : HasValue x d.negative (d.digits * 2 ^ d.power) (2 ^ 149) = value_at x d.negative d.digits d.power fitting (finite_field x fitting finite) e.negative e.digits e.power in
+    let equals : HasValue x d.negative (d.digits * 2 ^ d.power) (2 ^ 149) = value_at x d.negative d.digits d.power fitting (number_field x fitting finite) e.negative e.digits e.power in
     let v = value_of d in
     let gap = c.gap_between-gap in
     let miss = c.min-miss in
